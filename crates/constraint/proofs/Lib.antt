@@ -1,0 +1,10 @@
+pub mod Booleans
+pub mod Edges
+pub mod Laws
+pub mod Letters
+pub mod Named
+pub mod OneRecord
+pub mod Demand3
+pub mod TickSets
+pub mod Walk
+pub mod Words

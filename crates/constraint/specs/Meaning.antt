@@ -1,0 +1,225 @@
+-- What one constraint means: document 01, "Table text", its table of forms row by row. In every row w is the constraint's word
+-- before the step, and a, b and c say whether that clock is in the step's tick set F. Assumes nothing.
+use mathlib.Core.Bool.{Bool, true, false, not, cond, _&&_, _||_, Bool·beq}
+use mathlib.Core.List.{List, [], _∷_, _++_}
+use Prim.Native.Nat.{ℕ, zero, suc}
+use lib.Dec.{ltb, leb, eqb}
+use lib.IntN.{ℤ, pos, negsuc, sucℤ, predℤ}
+use lib.Signed.{leZ}
+use Rattle.constraint.specs.Ticks.{Ticks}
+use Rattle.constraint.specs.declared.Change.{Change}
+use Rattle.constraint.specs.declared.Change.the-variants.{Keep, Up, Down, Zero, One}
+use Rattle.constraint.specs.declared.Constraint.{Constraint}
+use Rattle.constraint.specs.declared.Counter.{Counter}
+use Rattle.constraint.specs.declared.Counter.the-variants.{Fixed, Gap, Lead, Countdown, StrictSample, Sample, Until}
+use Rattle.constraint.specs.declared.Definition.{Definition}
+use Rattle.constraint.specs.declared.Definition.the-variants.{Union, Inter, Lub, Glb, Await, StrictlySampled, Sampled, Upto}
+use Rattle.constraint.specs.declared.Kind.{Kind}
+use Rattle.constraint.specs.declared.Kind.the-variants.{Empty, Relates, Defines}
+use Rattle.constraint.specs.declared.Parameter.{Parameter}
+use Rattle.constraint.specs.declared.Relation.{Relation}
+use Rattle.constraint.specs.declared.Relation.the-variants.{Coincides, Excludes, SubClock, StrictlyPrecedes, Precedes}
+use Rattle.constraint.specs.declared.Span.{Span}
+use Rattle.constraint.specs.declared.Word.{Word}
+
+infix 40 _onlyWith_ _exactlyWhen_
+abbrev pub _onlyWith_ : Bool → Bool → Bool
+x onlyWith y = not x || y
+
+abbrev pub _exactlyWhen_ : Bool → Bool → Bool
+x exactlyWhen y = Bool·beq x y
+
+-- ---- the tests that the table makes on a word: w > 0, w < 0, w = n
+
+abbrev pub word : ℤ → Word
+word z = record { 0 = z }
+
+abbrev pub positive : ℤ → Bool
+positive (pos zero) = false
+positive (pos (suc n)) = true
+positive (negsuc n) = false
+
+abbrev pub negative : ℤ → Bool
+negative (pos n) = false
+negative (negsuc n) = true
+
+abbrev pub equals : ℕ → ℤ → Bool
+equals zero (pos zero) = true
+equals zero (pos (suc m)) = false
+equals (suc n) (pos zero) = false
+equals (suc n) (pos (suc m)) = equals n (pos m)
+equals n (negsuc m) = false
+
+abbrev pub above : Word → Bool
+above w = positive (w .0)
+
+abbrev pub below : Word → Bool
+below w = negative (w .0)
+
+abbrev pub is : ℕ → Word → Bool
+is n w = equals n (w .0)
+
+-- ---- column "Holds when"
+
+abbrev pub relates : Relation → Word → (a b : Bool) → Bool
+relates Coincides w a b = a exactlyWhen b
+relates Excludes w a b = not (a && b)
+relates SubClock w a b = a onlyWith b
+relates StrictlyPrecedes w a b = above w || not b
+relates Precedes w a b = above w || b onlyWith a
+
+-- when the clock that a definition defines is due to tick
+abbrev pub due : Definition → Word → (a b : Bool) → Bool
+due Union w a b = a || b
+due Inter w a b = a && b
+due Lub w a b = above w && b || below w && a || is 0 w && (a && b)
+due Glb w a b = above w && a || below w && b || is 0 w && (a || b)
+due Await w a b = is 1 w && a
+due StrictlySampled w a b = is 1 w && b
+due Sampled w a b = is 2 w && (a && b) || is 1 w && b
+due Upto w a b = is 1 w && (a && not b)
+
+abbrev pub holdsWhen : Kind → Word → (a b c : Bool) → Bool
+holdsWhen Empty w a b c = true
+holdsWhen (Relates k) w a b c = relates k w a b
+holdsWhen (Defines k) w a b c = c exactlyWhen due k w a b
+
+-- ---- column "Word: start, range, change"
+
+abbrev pub relationCounter : Relation → Counter
+relationCounter Coincides = Fixed
+relationCounter Excludes = Fixed
+relationCounter SubClock = Fixed
+relationCounter StrictlyPrecedes = Gap
+relationCounter Precedes = Gap
+
+abbrev pub definitionCounter : Definition → Counter
+definitionCounter Union = Fixed
+definitionCounter Inter = Fixed
+definitionCounter Lub = Lead
+definitionCounter Glb = Lead
+definitionCounter Await = Countdown
+definitionCounter StrictlySampled = StrictSample
+definitionCounter Sampled = Sample
+definitionCounter Upto = Until
+
+abbrev pub counterOf : Kind → Counter
+counterOf Empty = Fixed
+counterOf (Relates k) = relationCounter k
+counterOf (Defines k) = definitionCounter k
+
+abbrev pub spanOf : Counter → Parameter → Span
+spanOf Fixed n = record { start = pos 0; low = pos 0; high = pos 0 }
+spanOf Gap n = record { start = pos 0; low = pos 0; high = pos 1_000_000 }
+spanOf Lead n = record { start = pos 0; low = negsuc 999_999; high = pos 1_000_000 }
+spanOf Countdown n = record { start = pos (n .0); low = pos 0; high = pos (n .0) }
+spanOf StrictSample n = record { start = pos 2; low = pos 0; high = pos 2 }
+spanOf Sample n = record { start = pos 2; low = pos 0; high = pos 2 }
+spanOf Until n = record { start = pos 1; low = pos 0; high = pos 1 }
+
+-- plus 1 for a, minus 1 for b
+abbrev pub tally : (a b : Bool) → Change
+tally true true = Keep
+tally true false = Up
+tally false true = Down
+tally false false = Keep
+
+abbrev pub change : Counter → Word → (a b : Bool) → Change
+change Fixed w a b = Keep
+change Gap w a b = tally a b
+change Lead w a b = tally a b
+change Countdown w a b = cond (above w && a) Down Keep
+change StrictSample w a b = cond (is 2 w && a) One (cond (is 1 w && b) Zero Keep)
+change Sample w a b = cond (is 2 w && (a && b)) Zero (cond (is 2 w && a) One (cond (is 1 w && b) Zero Keep))
+change Until w a b = cond (is 1 w && b) Zero Keep
+
+abbrev pub moved : Change → Word → Word
+moved Keep w = w
+moved Up w = word (sucℤ (w .0))
+moved Down w = word (predℤ (w .0))
+moved Zero w = word (pos 0)
+moved One w = word (pos 1)
+
+-- ---- which clocks a form names: the one that it defines, and its operands
+
+abbrev pub definedBy : {A : Type 0} → Kind → A → List A
+definedBy Empty c = []
+definedBy (Relates k) c = []
+definedBy (Defines k) c = c ∷ []
+
+abbrev pub operands : {A : Type 0} → Definition → (a b : A) → List A
+operands Union a b = a ∷ b ∷ []
+operands Inter a b = a ∷ b ∷ []
+operands Lub a b = a ∷ b ∷ []
+operands Glb a b = a ∷ b ∷ []
+operands Await a b = a ∷ []
+operands StrictlySampled a b = a ∷ b ∷ []
+operands Sampled a b = a ∷ b ∷ []
+operands Upto a b = a ∷ b ∷ []
+
+abbrev pub operandsOf : {A : Type 0} → Kind → (a b : A) → List A
+operandsOf Empty a b = []
+operandsOf (Relates k) a b = a ∷ b ∷ []
+operandsOf (Defines k) a b = operands k a b
+
+abbrev pub named : {A : Type 0} → Kind → (a b c : A) → List A
+named k a b c = definedBy k c ++ operandsOf k a b
+
+-- ---- of a record
+
+abbrev pub holds : Constraint → Word → Ticks → Bool
+holds r w F = holdsWhen (r .kind) w (F (r .first)) (F (r .second)) (F (r .defined))
+
+abbrev pub nextWord : Constraint → Word → Ticks → Word
+nextWord r w F = moved (change (counterOf (r .kind)) w (F (r .first)) (F (r .second))) w
+
+abbrev pub span : Constraint → Span
+span r = spanOf (counterOf (r .kind)) (r .parameter)
+
+abbrev pub start : Constraint → Word
+start r = word (span r .start)
+
+abbrev pub within : Span → ℤ → Bool
+within s z = leZ (s .low) z && leZ z (s .high)
+
+abbrev pub inRange : Constraint → Word → Bool
+inRange r w = within (span r) (w .0)
+
+abbrev pub definedOf : Constraint → List ℕ
+definedOf r = definedBy (r .kind) (r .defined)
+
+abbrev pub clocksOf : Constraint → List ℕ
+clocksOf r = named (r .kind) (r .first) (r .second) (r .defined)
+
+-- ---- 59, as far as it looks at one record: a clock number not below the clock count, a clock twice, an await number out of range
+
+abbrev pub allBelow : ℕ → List ℕ → Bool
+allBelow clocks [] = true
+allBelow clocks (i ∷ is) = ltb i clocks && allBelow clocks is
+
+abbrev pub among : ℕ → List ℕ → Bool
+among i [] = false
+among i (j ∷ js) = eqb i j || among i js
+
+abbrev pub distinct : List ℕ → Bool
+distinct [] = true
+distinct (i ∷ is) = not (among i is) && distinct is
+
+abbrev pub parameterFits : Counter → Parameter → Bool
+parameterFits Fixed n = true
+parameterFits Gap n = true
+parameterFits Lead n = true
+parameterFits Countdown n = leb 1 (n .0) && leb (n .0) 1_000_000
+parameterFits StrictSample n = true
+parameterFits Sample n = true
+parameterFits Until n = true
+
+abbrev pub clocksFit : ℕ → List ℕ → Bool
+clocksFit clocks is = allBelow clocks is && distinct is
+
+abbrev pub wellFormed : ℕ → Constraint → Bool
+wellFormed clocks r = clocksFit clocks (clocksOf r) && parameterFits (counterOf (r .kind)) (r .parameter)
+
+-- whether the record defines the clock i
+abbrev pub defines : Constraint → ℕ → Bool
+defines r i = among i (definedOf r)

@@ -1,0 +1,110 @@
+-- The same-place question and demand 3: document 01, "Same place". Assumes nothing.
+use mathlib.Core.Path.{_≡_}
+use mathlib.Core.Logic.{_↔_}
+use mathlib.Core.Bool.{Bool, true, false, not, cond, _&&_}
+use mathlib.Core.List.{List, [], _∷_}
+use Prim.Native.Nat.{ℕ, _<_}
+use lib.Dec.{eqb}
+use lib.IntN.{ℤ, pos, negsuc}
+use lib.ListN.{length, getD}
+use Rattle.limit.specs.Limit.{numberOf}
+use Rattle.limit.specs.declared.Limit.{Limit}
+use Rattle.limit.specs.declared.Limit.the-variants.{Records, Configuration}
+use Rattle.constraint.specs.Lists.{empty, brokenRecord, brokenWord}
+use Rattle.constraint.specs.Meaning.{word, holds, nextWord}
+use Rattle.constraint.specs.Ticks.{Ticks, Below}
+use Rattle.constraint.specs.declared.Broken.{Broken}
+use Rattle.constraint.specs.declared.Broken.the-variants.{Nowhere, At}
+use Rattle.constraint.specs.declared.Constraint.{Constraint}
+use Rattle.constraint.specs.declared.SamePlace.{SamePlace}
+use Rattle.constraint.specs.declared.SamePlace.the-variants.{Refused, Same, Different}
+use Rattle.constraint.specs.declared.Word.{Word}
+
+-- ---- the answer
+
+-- what the question answers in document 01's words: refused with a limit's number and its place, or yes, or no
+pub data Answer : Type 0 where
+  refused : (number place : ℕ) → Answer
+  same : Answer
+  different : Answer
+
+abbrev pub answer : SamePlace → Answer
+answer (Refused r) = refused (numberOf (r .limit)) (r .place .0)
+answer Same = same
+answer Different = different
+
+abbrev pub refuseAt : Limit → Broken → Answer → Answer
+refuseAt l Nowhere otherwise = otherwise
+refuseAt l (At p) otherwise = refused (numberOf l) (p .0)
+
+abbrev pub sameInteger : ℤ → ℤ → Bool
+sameInteger (pos m) (pos n) = eqb m n
+sameInteger (pos m) (negsuc n) = false
+sameInteger (negsuc m) (pos n) = false
+sameInteger (negsuc m) (negsuc n) = eqb m n
+
+abbrev pub sameWord : Word → Word → Bool
+sameWord w v = sameInteger (w .0) (v .0)
+
+abbrev pub sameWords : List Word → List Word → Bool
+sameWords [] [] = true
+sameWords [] (v ∷ vs) = false
+sameWords (w ∷ ws) [] = false
+sameWords (w ∷ ws) (v ∷ vs) = sameWord w v && sameWords ws vs
+
+-- 59, 60 of the first configuration, 60 of the second, and then whether their words are the same
+abbrev pub samePlaceOf : (clocks : ℕ) → List Constraint → (first second : List Word) → Answer
+samePlaceOf clocks rs ws vs =
+    refuseAt Records (brokenRecord clocks rs)
+    (refuseAt Configuration (brokenWord rs ws)
+    (refuseAt Configuration (brokenWord rs vs)
+    (cond (sameWords ws vs) same different)))
+
+-- ---- what the answer means
+
+-- a continuation: a finite list of sets of clock numbers below the clock count
+abbrev pub Continuation : ℕ → List Ticks → Type 0
+Continuation clocks [] = Unit {0}
+Continuation clocks (F ∷ Fs) = Below clocks F × Continuation clocks Fs
+
+-- the record accepts a list of sets from the word w: each set in turn is taken as F, and the next meets the new word
+abbrev pub accepts : Constraint → Word → List Ticks → Bool
+accepts r w [] = true
+accepts r w (F ∷ Fs) = holds r w F && accepts r (nextWord r w F) Fs
+
+-- the record accepts each continuation from both words or from neither
+abbrev pub Alike : ℕ → Constraint → Word → Word → Type 0
+Alike clocks r w v = (Fs : List Ticks) → Continuation clocks Fs → accepts r w Fs ≡ accepts r v Fs
+
+-- the record accepts some continuation from one of the words and not from the other
+abbrev pub Apart : ℕ → Constraint → Word → Word → Type 0
+Apart clocks r w v = (Fs : List Ticks) × Continuation clocks Fs × (accepts r w Fs ≡ not (accepts r v Fs))
+
+-- record i of a list, from 0, and its word
+abbrev pub recordAt : List Constraint → ℕ → Constraint
+recordAt rs i = getD rs i empty
+
+abbrev pub wordAt : List Word → ℕ → Word
+wordAt ws i = getD ws i (word (pos 0))
+
+-- each record, judged by itself, does so
+abbrev pub AllAlike : ℕ → List Constraint → (first second : List Word) → Type 0
+AllAlike clocks rs ws vs = (i : ℕ) → i < length rs → Alike clocks (recordAt rs i) (wordAt ws i) (wordAt vs i)
+
+-- some record, judged by itself, does so
+abbrev pub SomeApart : ℕ → List Constraint → (first second : List Word) → Type 0
+SomeApart clocks rs ws vs = (i : ℕ) × (i < length rs) × Apart clocks (recordAt rs i) (wordAt ws i) (wordAt vs i)
+
+-- demand 3, of an answer: where 59 and 60 let all pass, it is yes exactly when all records accept alike, and no exactly when
+-- some record tells the two apart
+abbrev pub Demand3 : ℕ → List Constraint → (first second : List Word) → Answer → Type 0
+Demand3 clocks rs ws vs said =
+    brokenRecord clocks rs ≡ Nowhere →
+    brokenWord rs ws ≡ Nowhere →
+    brokenWord rs vs ≡ Nowhere →
+    (said ≡ same ↔ AllAlike clocks rs ws vs) × (said ≡ different ↔ SomeApart clocks rs ws vs)
+
+-- what a call that answers the question promises: the definition's answer, and that demand 3 holds of it
+pub record Answered (clocks : ℕ) (rs : List Constraint) (ws vs : List Word) (said : Answer) : Type 0 where
+  pub given : said ≡ samePlaceOf clocks rs ws vs
+  pub meant : Demand3 clocks rs ws vs said

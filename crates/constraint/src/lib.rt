@@ -1,0 +1,116 @@
+// One constraint of a table: its record and its word, what a step means for it, and whether two words of it stand at the same
+// place. Lists of records: which of them are let pass, which configurations are, and the same-place question on values.
+
+mod place;
+mod rule;
+mod tick_set;
+
+use limit::Place;
+use limit::Refusal;
+pub use place::broken_record;
+pub use place::broken_word;
+pub use place::empty;
+pub use place::record_fits;
+pub use place::same_place;
+pub use place::with_defined;
+pub use rule::below;
+pub use rule::defines;
+pub use rule::holds;
+pub use rule::in_range;
+pub use rule::magnitude;
+pub use rule::next_word;
+pub use rule::start;
+pub use rule::well_formed;
+pub use tick_set::ticks;
+pub use tick_set::with_tick;
+
+// The relations, in the order of document 01's table: `a = b`, `a # b`, `a isSubClockOf b`, `a strictly precedes b`,
+// `a precedes b`.
+pub enum Relation {
+    Coincides,
+    Excludes,
+    SubClock,
+    StrictlyPrecedes,
+    Precedes,
+}
+
+// The right sides of `c clockDef`, in the order of document 01's table: `a clockUnion b`, `a clockInter b`, `a lub b`,
+// `a glb b`, `await n a`, `a strictly sampled b`, `a sampled b`, `a upto b`.
+pub enum Definition {
+    Union,
+    Inter,
+    Lub,
+    Glb,
+    Await,
+    StrictlySampled,
+    Sampled,
+    Upto,
+}
+
+// The form of a constraint: one of the 13, or none, in a slot that has no constraint.
+pub enum Kind {
+    Empty,
+    Relates(Relation),
+    Defines(Definition),
+}
+
+// The number n of an await; any number in every other form, where it means nothing.
+pub struct Parameter(pub u32);
+
+// A constraint, with the numbers of its clocks: c, which it defines, a and b. A form looks only at those that it names.
+pub struct Constraint {
+    pub kind: Kind,
+    pub defined: u8,
+    pub first: u8,
+    pub second: u8,
+    pub parameter: Parameter,
+    pub line: Place,
+}
+
+// A constraint's part of a configuration: w of document 01's table.
+pub struct Word(pub i64);
+
+// A word for each constraint in table order; the rest are 0.
+pub struct Configuration {
+    pub words: [Word; 64],
+}
+
+// How a form counts in its word: the third column of document 01's table.
+pub enum Counter {
+    Fixed,
+    Gap,
+    Lead,
+    Countdown,
+    StrictSample,
+    Sample,
+    Until,
+}
+
+// A counter's start, and its range from low to high.
+pub struct Span {
+    pub start: i64,
+    pub low: i64,
+    pub high: i64,
+}
+
+// What a step does to a word.
+pub enum Change {
+    Keep,
+    Up,
+    Down,
+    Zero,
+    One,
+}
+
+// The lowest place at which a list breaks a limit, if there is one.
+pub enum Broken {
+    Nowhere,
+    At(Place),
+}
+
+// The answer to the same-place question.
+pub enum SamePlace {
+    Refused(Refusal),
+    Same,
+    Different,
+}

@@ -1,0 +1,317 @@
+// What one constraint means: document 01, "Table text". Each function is equal to the definition of its name in specs/Meaning.
+use super::Change;
+use super::Constraint;
+use super::Counter;
+use super::Definition;
+use super::Kind;
+use super::Parameter;
+use super::Relation;
+use super::Span;
+use super::Word;
+use super::tick_set::ticks;
+use limit::Place;
+ghost use mathlib.Core.Path.{_≡_};
+ghost use mathlib.Core.Bool.{true, cond};
+ghost use mathlib.Core.List.{_∷_, []};
+ghost use Prim.Native.Nat.{_<_};
+ghost use lib.IntN.{natAbs};
+ghost use lib.Signed.{mag};
+ghost use Rattle.constraint.specs.Ticks.{bits};
+ghost use Rattle.constraint.specs.Meaning as m;
+
+// w > 0.
+fn above(w: Word) -> bool
+    ensures { λ r. ⌜ r ≡ m.above w ⌝ }
+{
+    w.0 > 0
+}
+
+// w < 0.
+pub fn below(w: Word) -> bool
+    ensures { λ r. ⌜ r ≡ m.below w ⌝ }
+{
+    w.0 < 0
+}
+
+// How far w is from 0, for whoever prints a word.
+pub fn magnitude(w: Word) -> u64
+    ensures { λ r. ⌜ r ≡ natAbs (w .0) ⌝ }
+{
+    if w.0 < 0 {
+        (0 - (w.0 + 1)) as u64 + 1
+    } else {
+        w.0 as u64
+    }
+}
+
+// w = n.
+fn is(n: u8, w: Word) -> bool
+    ensures { λ r. ⌜ r ≡ m.is n w ⌝ }
+{
+    w.0 == n as i64
+}
+
+// Whether a relation allows a step in which a and b tick or not.
+fn relates(k: Relation, w: Word, a: bool, b: bool) -> bool
+    ensures { λ r. ⌜ r ≡ m.relates k w a b ⌝ }
+{
+    match k {
+        Relation::Coincides => a == b,
+        Relation::Excludes => !(a & b),
+        Relation::SubClock => !a | b,
+        Relation::StrictlyPrecedes => above(w) | !b,
+        Relation::Precedes => above(w) | (!b | a),
+    }
+}
+
+// Whether the clock that a definition defines is due to tick in a step in which a and b tick or not.
+fn due(k: Definition, w: Word, a: bool, b: bool) -> bool
+    ensures { λ r. ⌜ r ≡ m.due k w a b ⌝ }
+{
+    match k {
+        Definition::Union => a | b,
+        Definition::Inter => a & b,
+        Definition::Lub => above(w) & b | below(w) & a | is(0, w) & (a & b),
+        Definition::Glb => above(w) & a | below(w) & b | is(0, w) & (a | b),
+        Definition::Await => is(1, w) & a,
+        Definition::StrictlySampled => is(1, w) & b,
+        Definition::Sampled => is(2, w) & (a & b) | is(1, w) & b,
+        Definition::Upto => is(1, w) & (a & !b),
+    }
+}
+
+// Whether the record allows a step with the tick set f.
+pub fn holds(constraint: Constraint, w: Word, f: u32) -> bool
+    ensures { λ r. ⌜ r ≡ m.holds constraint w (bits f) ⌝ }
+{
+    let kind = constraint.kind;
+    let a = ticks(f, constraint.first);
+    let b = ticks(f, constraint.second);
+    match kind {
+        Kind::Empty => true,
+        Kind::Relates(k) => relates(k, w, a, b),
+        Kind::Defines(k) => ticks(f, constraint.defined) == due(k, w, a, b),
+    }
+}
+
+fn relation_counter(k: Relation) -> Counter
+    ensures { λ r. ⌜ r ≡ m.relationCounter k ⌝ }
+{
+    match k {
+        Relation::Coincides => Counter::Fixed,
+        Relation::Excludes => Counter::Fixed,
+        Relation::SubClock => Counter::Fixed,
+        Relation::StrictlyPrecedes => Counter::Gap,
+        Relation::Precedes => Counter::Gap,
+    }
+}
+
+fn definition_counter(k: Definition) -> Counter
+    ensures { λ r. ⌜ r ≡ m.definitionCounter k ⌝ }
+{
+    match k {
+        Definition::Union => Counter::Fixed,
+        Definition::Inter => Counter::Fixed,
+        Definition::Lub => Counter::Lead,
+        Definition::Glb => Counter::Lead,
+        Definition::Await => Counter::Countdown,
+        Definition::StrictlySampled => Counter::StrictSample,
+        Definition::Sampled => Counter::Sample,
+        Definition::Upto => Counter::Until,
+    }
+}
+
+// How a form counts in its word.
+fn counter_of(kind: Kind) -> Counter
+    ensures { λ r. ⌜ r ≡ m.counterOf kind ⌝ }
+{
+    match kind {
+        Kind::Empty => Counter::Fixed,
+        Kind::Relates(k) => relation_counter(k),
+        Kind::Defines(k) => definition_counter(k),
+    }
+}
+
+// A counter's start and range; n is the number of an await.
+fn span_of(counter: Counter, n: Parameter) -> Span
+    ensures { λ r. ⌜ r ≡ m.spanOf counter n ⌝ }
+{
+    match counter {
+        Counter::Fixed => row(0, 0, 0),
+        Counter::Gap => row(0, 0, 1000000),
+        Counter::Lead => row(0, -1000000, 1000000),
+        Counter::Countdown => row(n.0 as i64, 0, n.0 as i64),
+        Counter::StrictSample => row(2, 0, 2),
+        Counter::Sample => row(2, 0, 2),
+        Counter::Until => row(1, 0, 1),
+    }
+}
+
+// A span of these three numbers.
+fn row(start: i64, low: i64, high: i64) -> Span
+    ensures { λ r. ⌜ r ≡ record { start = start; low = low; high = high } ⌝ }
+{
+    Span { start, low, high }
+}
+
+// The first where the test holds, else the second.
+fn pick(test: bool, first: Change, second: Change) -> Change
+    ensures { λ r. ⌜ r ≡ cond test first second ⌝ }
+{
+    if test { first } else { second }
+}
+
+// Plus 1 for a, minus 1 for b.
+fn tally(a: bool, b: bool) -> Change
+    ensures { λ r. ⌜ r ≡ m.tally a b ⌝ }
+{
+    if a {
+        if b { Change::Keep } else { Change::Up }
+    } else {
+        if b { Change::Down } else { Change::Keep }
+    }
+}
+
+// What a step in which a and b tick or not does to a word.
+fn change(counter: Counter, w: Word, a: bool, b: bool) -> Change
+    ensures { λ r. ⌜ r ≡ m.change counter w a b ⌝ }
+{
+    match counter {
+        Counter::Fixed => Change::Keep,
+        Counter::Gap => tally(a, b),
+        Counter::Lead => tally(a, b),
+        Counter::Countdown => pick(above(w) & a, Change::Down, Change::Keep),
+        Counter::StrictSample => {
+            let later = pick(is(1, w) & b, Change::Zero, Change::Keep);
+            pick(is(2, w) & a, Change::One, later)
+        }
+        Counter::Sample => {
+            let later = pick(is(1, w) & b, Change::Zero, Change::Keep);
+            let alone = pick(is(2, w) & a, Change::One, later);
+            pick(is(2, w) & (a & b), Change::Zero, alone)
+        }
+        Counter::Until => pick(is(1, w) & b, Change::Zero, Change::Keep),
+    }
+}
+
+// A word after a change.
+fn moved(change: Change, w: Word) -> Word
+    requires { ⌜ mag (w .0) < 4294967296 ⌝ }
+    ensures { λ r. ⌜ r ≡ m.moved change w ⌝ }
+{
+    match change {
+        Change::Keep => w,
+        Change::Up => Word(w.0 + 1),
+        Change::Down => Word(w.0 - 1),
+        Change::Zero => Word(0),
+        Change::One => Word(1),
+    }
+}
+
+// The record's word after a step that it allows, with the tick set f.
+pub fn next_word(constraint: Constraint, w: Word, f: u32) -> Word
+    requires { ⌜ m.inRange constraint w ≡ true ⌝ }
+    ensures { λ r. ⌜ r ≡ m.nextWord constraint w (bits f) ⌝ }
+{
+    let kind = constraint.kind;
+    let a = ticks(f, constraint.first);
+    let b = ticks(f, constraint.second);
+    moved(change(counter_of(kind), w, a, b), w)
+}
+
+// The start and the range of the record's word.
+fn span(constraint: Constraint) -> Span
+    ensures { λ r. ⌜ r ≡ m.span constraint ⌝ }
+{
+    let kind = constraint.kind;
+    let n = constraint.parameter;
+    span_of(counter_of(kind), n)
+}
+
+// The record's word before the first step.
+pub fn start(constraint: Constraint) -> Word
+    ensures { λ r. ⌜ r ≡ m.start constraint ⌝ }
+{
+    let s = span(constraint);
+    Word(s.start)
+}
+
+// Whether a word is in the record's range.
+pub fn in_range(constraint: Constraint, w: Word) -> bool
+    ensures { λ r. ⌜ r ≡ m.inRange constraint w ⌝ }
+{
+    let s = span(constraint);
+    (s.low <= w.0) & (w.0 <= s.high)
+}
+
+// Two clocks below the clock count, and not one twice.
+fn pair_fits(clocks: u8, x: u8, y: u8) -> bool
+    ensures { λ r. ⌜ r ≡ m.clocksFit clocks (x ∷ y ∷ []) ⌝ }
+{
+    (x < clocks) & (y < clocks) & (x != y)
+}
+
+// Three clocks below the clock count, and not one twice.
+fn triple_fits(clocks: u8, x: u8, y: u8, z: u8) -> bool
+    ensures { λ r. ⌜ r ≡ m.clocksFit clocks (x ∷ y ∷ z ∷ []) ⌝ }
+{
+    (x < clocks) & (y < clocks) & (z < clocks) & (x != y) & (x != z) & (y != z)
+}
+
+// The clocks of a definition: c, which it defines, and its operands.
+fn definition_fits(k: Definition, clocks: u8, a: u8, b: u8, c: u8) -> bool
+    ensures { λ r. ⌜ r ≡ m.clocksFit clocks (c ∷ m.operands k a b) ⌝ }
+{
+    match k {
+        Definition::Await => pair_fits(clocks, c, a),
+        _ => triple_fits(clocks, c, a, b),
+    }
+}
+
+// The number of an await is 1 to 1,000,000.
+fn parameter_fits(counter: Counter, n: Parameter) -> bool
+    ensures { λ r. ⌜ r ≡ m.parameterFits counter n ⌝ }
+{
+    match counter {
+        Counter::Fixed => true,
+        Counter::Gap => true,
+        Counter::Lead => true,
+        Counter::Countdown => (1 <= n.0) & (n.0 <= 1000000),
+        Counter::StrictSample => true,
+        Counter::Sample => true,
+        Counter::Until => true,
+    }
+}
+
+// Limit 59, as far as it looks at one constraint.
+pub fn well_formed(clocks: u8, constraint: Constraint) -> bool
+    ensures { λ r. ⌜ r ≡ m.wellFormed clocks constraint ⌝ }
+{
+    let kind = constraint.kind;
+    let n = constraint.parameter;
+    let number = parameter_fits(counter_of(kind), n);
+    match kind {
+        Kind::Empty => number,
+        Kind::Relates(_) => pair_fits(clocks, constraint.first, constraint.second) & number,
+        Kind::Defines(k) => definition_fits(
+            k,
+            clocks,
+            constraint.first,
+            constraint.second,
+            constraint.defined,
+        )
+            & number,
+    }
+}
+
+// Whether the record defines clock i.
+pub fn defines(constraint: Constraint, i: u8) -> bool
+    ensures { λ r. ⌜ r ≡ m.defines constraint i ⌝ }
+{
+    let kind = constraint.kind;
+    match kind {
+        Kind::Empty => false,
+        Kind::Relates(_) => false,
+        Kind::Defines(_) => i == constraint.defined,
+    }
+}
