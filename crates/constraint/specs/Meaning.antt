@@ -19,7 +19,7 @@ use Rattle.constraint.specs.declared.Kind.the-variants.{Empty, Relates, 
 use Rattle.constraint.specs.declared.Parameter.{Parameter}
 use Rattle.constraint.specs.declared.Relation.{Relation}
 use Rattle.constraint.specs.declared.Relation.the-variants.{Coincides, Excludes, SubClock, StrictlyPrecedes, Precedes}
-use Rattle.constraint.specs.declared.Span.{Span}
+use Rattle.constraint.specs.declared.Range.{Range}
 use Rattle.constraint.specs.declared.Word.{Word}
 
 infix 40 _onlyWith_ _exactlyWhen_
@@ -62,21 +62,34 @@ is n w = equals n (w .0)
 -- ---- column "Holds when"
 
 abbrev pub relates : Relation → Word → (a b : Bool) → Bool
+-- a = b: both or neither tick
 relates Coincides w a b = a exactlyWhen b
+-- a # b: not both
 relates Excludes w a b = not (a && b)
+-- a isSubClockOf b: a in F only with b
 relates SubClock w a b = a onlyWith b
+-- a strictly precedes b: w > 0, or b not in F
 relates StrictlyPrecedes w a b = above w || not b
+-- a precedes b: w > 0, or b only with a
 relates Precedes w a b = above w || b onlyWith a
 
 -- when the clock that a definition defines is due to tick
 abbrev pub due : Definition → Word → (a b : Bool) → Bool
+-- a clockUnion b: a or b
 due Union w a b = a || b
+-- a clockInter b: a and b
 due Inter w a b = a && b
+-- a lub b: w > 0, b; w < 0, a; w = 0, both
 due Lub w a b = above w && b || below w && a || is 0 w && (a && b)
+-- a glb b: w > 0, a; w < 0, b; w = 0, either
 due Glb w a b = above w && a || below w && b || is 0 w && (a || b)
+-- await n a: w = 1 and a
 due Await w a b = is 1 w && a
+-- a strictly sampled b: w = 1 and b
 due StrictlySampled w a b = is 1 w && b
+-- a sampled b: w = 2, a and b; w = 1, b; w = 0, never
 due Sampled w a b = is 2 w && (a && b) || is 1 w && b
+-- a upto b: w = 1, a and not b
 due Upto w a b = is 1 w && (a && not b)
 
 abbrev pub holdsWhen : Kind → Word → (a b c : Bool) → Bool
@@ -108,14 +121,14 @@ counterOf Empty = Fixed
 counterOf (Relates k) = relationCounter k
 counterOf (Defines k) = definitionCounter k
 
-abbrev pub spanOf : Counter → Parameter → Span
-spanOf Fixed n = record { start = pos 0; low = pos 0; high = pos 0 }
-spanOf Gap n = record { start = pos 0; low = pos 0; high = pos 1_000_000 }
-spanOf Lead n = record { start = pos 0; low = negsuc 999_999; high = pos 1_000_000 }
-spanOf Countdown n = record { start = pos (n .0); low = pos 0; high = pos (n .0) }
-spanOf StrictSample n = record { start = pos 2; low = pos 0; high = pos 2 }
-spanOf Sample n = record { start = pos 2; low = pos 0; high = pos 2 }
-spanOf Until n = record { start = pos 1; low = pos 0; high = pos 1 }
+abbrev pub counterRange : Counter → Parameter → Range
+counterRange Fixed n = record { start = pos 0; low = pos 0; high = pos 0 }
+counterRange Gap n = record { start = pos 0; low = pos 0; high = pos 1_000_000 }
+counterRange Lead n = record { start = pos 0; low = negsuc 999_999; high = pos 1_000_000 }
+counterRange Countdown n = record { start = pos (n .0); low = pos 0; high = pos (n .0) }
+counterRange StrictSample n = record { start = pos 2; low = pos 0; high = pos 2 }
+counterRange Sample n = record { start = pos 2; low = pos 0; high = pos 2 }
+counterRange Until n = record { start = pos 1; low = pos 0; high = pos 1 }
 
 -- plus 1 for a, minus 1 for b
 abbrev pub tally : (a b : Bool) → Change
@@ -125,12 +138,18 @@ tally false true = Down
 tally false false = Keep
 
 abbrev pub change : Counter → Word → (a b : Bool) → Change
+-- none
 change Fixed w a b = Keep
+-- plus 1 for a, minus 1 for b
 change Gap w a b = tally a b
 change Lead w a b = tally a b
+-- minus 1 for a while w > 0
 change Countdown w a b = cond (above w && a) Down Keep
+-- 2 to 1 on a; 1 to 0 on b
 change StrictSample w a b = cond (is 2 w && a) One (cond (is 1 w && b) Zero Keep)
+-- from 2: to 0 on both, to 1 on a alone; 1 to 0 on b
 change Sample w a b = cond (is 2 w && (a && b)) Zero (cond (is 2 w && a) One (cond (is 1 w && b) Zero Keep))
+-- 1 to 0 on b
 change Until w a b = cond (is 1 w && b) Zero Keep
 
 abbrev pub moved : Change → Word → Word
@@ -173,17 +192,17 @@ holds r w F = holdsWhen (r .kind) w (F (r .first)) (F (r .second)) (F (r .define
 abbrev pub nextWord : Constraint → Word → Ticks → Word
 nextWord r w F = moved (change (counterOf (r .kind)) w (F (r .first)) (F (r .second))) w
 
-abbrev pub span : Constraint → Span
-span r = spanOf (counterOf (r .kind)) (r .parameter)
+abbrev pub wordRange : Constraint → Range
+wordRange r = counterRange (counterOf (r .kind)) (r .parameter)
 
 abbrev pub start : Constraint → Word
-start r = word (span r .start)
+start r = word (wordRange r .start)
 
-abbrev pub within : Span → ℤ → Bool
+abbrev pub within : Range → ℤ → Bool
 within s z = leZ (s .low) z && leZ z (s .high)
 
 abbrev pub inRange : Constraint → Word → Bool
-inRange r w = within (span r) (w .0)
+inRange r w = within (wordRange r) (w .0)
 
 abbrev pub definedOf : Constraint → List ℕ
 definedOf r = definedBy (r .kind) (r .defined)

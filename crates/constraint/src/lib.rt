@@ -87,7 +87,7 @@ pub enum Counter {
 }
 
 // A counter's start, and its range from low to high.
-pub struct Span {
+pub struct Range {
     pub start: i64,
     pub low: i64,
     pub high: i64,

@@ -5,8 +5,8 @@ use super::Counter;
 use super::Definition;
 use super::Kind;
 use super::Parameter;
+use super::Range;
 use super::Relation;
-use super::Span;
 use super::Word;
 use super::tick_set::ticks;
 use limit::Place;
@@ -133,8 +133,8 @@ fn counter_of(kind: Kind) -> Counter
 }
 
 // A counter's start and range; n is the number of an await.
-fn span_of(counter: Counter, n: Parameter) -> Span
-    ensures { λ r. ⌜ r ≡ m.spanOf counter n ⌝ }
+fn counter_range(counter: Counter, n: Parameter) -> Range
+    ensures { λ r. ⌜ r ≡ m.counterRange counter n ⌝ }
 {
     match counter {
         Counter::Fixed => row(0, 0, 0),
@@ -147,11 +147,11 @@ fn span_of(counter: Counter, n: Parameter) -> Span
     }
 }
 
-// A span of these three numbers.
-fn row(start: i64, low: i64, high: i64) -> Span
+// A range of these three numbers.
+fn row(start: i64, low: i64, high: i64) -> Range
     ensures { λ r. ⌜ r ≡ record { start = start; low = low; high = high } ⌝ }
 {
-    Span { start, low, high }
+    Range { start, low, high }
 }
 
 // The first where the test holds, else the second.
@@ -220,19 +220,19 @@ pub fn next_word(constraint: Constraint, w: Word, f: u32) -> Word
 }
 
 // The start and the range of the record's word.
-fn span(constraint: Constraint) -> Span
-    ensures { λ r. ⌜ r ≡ m.span constraint ⌝ }
+fn word_range(constraint: Constraint) -> Range
+    ensures { λ r. ⌜ r ≡ m.wordRange constraint ⌝ }
 {
     let kind = constraint.kind;
     let n = constraint.parameter;
-    span_of(counter_of(kind), n)
+    counter_range(counter_of(kind), n)
 }
 
 // The record's word before the first step.
 pub fn start(constraint: Constraint) -> Word
     ensures { λ r. ⌜ r ≡ m.start constraint ⌝ }
 {
-    let s = span(constraint);
+    let s = word_range(constraint);
     Word(s.start)
 }
 
@@ -240,7 +240,7 @@ pub fn start(constraint: Constraint) -> Word
 pub fn in_range(constraint: Constraint, w: Word) -> bool
     ensures { λ r. ⌜ r ≡ m.inRange constraint w ⌝ }
 {
-    let s = span(constraint);
+    let s = word_range(constraint);
     (s.low <= w.0) & (w.0 <= s.high)
 }
 

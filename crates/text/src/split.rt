@@ -1,0 +1,80 @@
+// Runs of a class of bytes, and the words between separators.
+use super::Class;
+use super::Span;
+ghost use mathlib.Core.Path.{_≡_};
+ghost use Prim.Native.Nat.{_≤_};
+ghost use lib.ListN.{length, drop};
+ghost use Rattle.text.specs.Bytes as b;
+ghost use Rattle.text.specs.Split as s;
+
+// Whether a byte is of a class.
+pub fn in_class(class: Class, byte: u8) -> bool
+    ensures { λ r. ⌜ r ≡ b.inClass class byte ⌝ }
+{
+    let letter = (65 <= byte) & (byte <= 90) | (97 <= byte) & (byte <= 122);
+    let digit = (48 <= byte) & (byte <= 57);
+    match class {
+        Class::Newline => byte == 10,
+        Class::Space => byte == 32,
+        Class::Printable => (32 <= byte) & (byte <= 126),
+        Class::Letter => letter,
+        Class::Digit => digit,
+        Class::NameByte => letter | digit | (byte == 95),
+    }
+}
+
+// Whether a byte is inside a class, or outside it.
+fn passes(class: Class, inside: bool, byte: u8) -> bool
+    ensures { λ r. ⌜ r ≡ b.passes class inside byte ⌝ }
+{
+    in_class(class, byte) == inside
+}
+
+// Where the bytes inside a class, or outside it, from an offset on end.
+pub fn run_end(class: Class, inside: bool, text: &[u8], at: usize) -> usize
+    ensures { λ r. ⌜ r ≡ s.runEnd (b.passes class inside) at (drop at (now (text .entry))) ⌝ }
+{
+    let mut i = at;
+    while i < text.len() {
+        if !passes(class, inside, text[i]) {
+            return i;
+        }
+        i += 1;
+    }
+    i
+}
+
+// Whether all bytes from an offset on are of a class.
+pub fn all_from(class: Class, text: &[u8], at: usize) -> bool
+    requires { ⌜ at ≤ length (now text) ⌝ }
+    ensures { λ r. ⌜ r ≡ b.allBytes (b.inClass class) (drop at (now (text .entry))) ⌝ }
+{
+    text.len() <= run_end(class, true, text, at)
+}
+
+// The first word from an offset on; the empty one at the text's end where there is none.
+pub fn next_word(class: Class, text: &[u8], at: usize) -> Span
+    requires { ⌜ at ≤ length (now text) ⌝ }
+    ensures { λ r. ⌜ s.NextWord (b.inClass class) (now (text .entry)) at r ⌝ }
+{
+    let start = run_end(class, true, text, at);
+    let end = run_end(class, false, text, start);
+    Span { start, end }
+}
+
+// Whether two texts hold the same bytes.
+pub fn same_bytes(one: &[u8], other: &[u8]) -> bool
+    ensures { λ r. ⌜ r ≡ b.sameBytes (now (one .entry)) (now (other .entry)) ⌝ }
+{
+    let mut i = 0;
+    while i < one.len() {
+        if other.len() <= i {
+            return false;
+        }
+        if one[i] != other[i] {
+            return false;
+        }
+        i += 1;
+    }
+    other.len() <= i
+}
