@@ -9,10 +9,10 @@ use native.Mathlib.Numerals.{add-one}
 use native.Mathlib.Omega.{arith}
 use borrow.Author.Tests.{lt-ltb, le-ltb, ltb-true}
 use lib.Dec.{ltb, leb}
-use lib.ListN.{length, drop, getD, drop-of-length-le, length-map}
-use lib.Seq.{drop-cons, drop-nil}
-use Rattle.constraint.specs.Lists.{at, empty, slots, recordFits, firstUnfit, front, rest, firstOut}
-use Rattle.constraint.specs.Meaning.{named, definedBy, definedOf, clocksOf, clocksFit, allBelow, wellFormed, inRange}
+use lib.ListN.{length, take, drop, getD, set, drop-of-length-le, length-map, List·getD-map}
+use lib.Seq.{drop-cons, drop-nil, take-all, take-suc, take-suc-set}
+use Rattle.constraint.specs.Lists.{at, empty, slots, recordFits, firstUnfit, front, rest, firstOut, startWords}
+use Rattle.constraint.specs.Meaning.{named, definedBy, definedOf, clocksOf, clocksFit, allBelow, wellFormed, start, inRange}
 use Rattle.constraint.specs.SamePlace.{sameWord, sameWords}
 use Rattle.constraint.specs.Ticks.{addingAll, bits, withTicks}
 use Rattle.constraint.specs.declared.Broken.the-variants.{Nowhere}
@@ -133,3 +133,13 @@ module _ (ws vs : List Word) (i : ℕ) where
 -- an array in a struct is known as the values that its elements stand for: it has as many
 pub length-mapped : (X Y : Type 0) (f : X → Y) (l : List X) (n : ℕ) → length (map f l) ≡ n → length l ≡ n
 length-mapped X Y f l n e = sym (length-map l f) ∙ e
+
+-- ---- start words
+module _ (rs : List Constraint) (ws : List Word) (i : ℕ) where
+  pub start-more : (d : Constraint) (w : Word) → i < length rs → i < length ws → take i ws ≡ take i (startWords rs) → w ≡ start (getD rs i d) → take (i + 1) (set ws i w) ≡ take (i + 1) (startWords rs)
+  start-more d w h k e q =
+      let l : i < length (map start rs) = omega (arith, length-map rs start) in
+      rw (add-one i) (take-suc-set ws i w k ∙ rw (e, q, ← List·getD-map start rs i d) (sym (take-suc (map start rs) i (start d) l)))
+
+  pub start-all : length ws ≡ i → length rs ≡ i → take i ws ≡ take i (startWords rs) → ws ≡ startWords rs
+  start-all h k e = sym (take-all i ws (omega arith)) ∙ e ∙ take-all i (map start rs) (omega (arith, length-map rs start))

@@ -7,6 +7,7 @@ use super::Parameter;
 use super::SamePlace;
 use super::Word;
 use super::rule::in_range;
+use super::rule::start;
 use super::rule::well_formed;
 use super::tick_set::ticks;
 use super::tick_set::with_tick;
@@ -35,7 +36,7 @@ pub fn empty() -> Constraint
 }
 
 // Whether a record defines a clock of those that earlier records define.
-fn defines_again(earlier: u32, constraint: Constraint) -> bool
+pub fn defines_again(earlier: u32, constraint: Constraint) -> bool
     ensures { λ r. ⌜ r ≡ any (bits earlier) (m.definedOf constraint) ⌝ }
 {
     let kind = constraint.kind;
@@ -113,6 +114,20 @@ pub fn broken_word(records: [Constraint; 64], count: usize, configuration: Confi
         i += 1;
     }
     Broken::Nowhere
+}
+
+// The start words of 64 slots.
+pub fn start_words(records: [Constraint; 64]) -> Configuration
+    ensures { λ r. ⌜ r .words ≡ l.startWords records ⌝ }
+{
+    let mut words = [Word(0); 64];
+    let mut i: usize = 0;
+    while i < 64 {
+        let constraint = records[i];
+        words[i] = start(constraint);
+        i += 1;
+    }
+    Configuration { words }
 }
 
 // Whether two words are the same.

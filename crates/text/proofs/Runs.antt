@@ -1,18 +1,18 @@
 -- Runs of bytes that pass a test, and the pieces and words of a text unfolded by one: what one call of `next_word` finds is the
 -- first word, and the words that follow are those from its end on. The laws are over the test. Assumes nothing.
-use mathlib.Core.Path.{_≡_, refl, sym, ap, _∙_}
+use mathlib.Core.Path.{_≡_, refl, sym, ap, ap₂, _∙_}
 use mathlib.Core.Bool.{Bool, true, false, not, cond, _&&_}
 use mathlib.Core.List.{List, [], _∷_, _++_, nil≢cons, head-eq-of-cons-eq}
 use Prim.Native.Nat.{ℕ, zero, suc, _+_, _-_, _≤_, _<_}
-use native.Mathlib.Decide.{decLt}
+use native.Mathlib.Decide.{decLe}
 use native.Mathlib.Nat.{add-zero}
 use native.Mathlib.Omega.{arith}
-use borrow.Author.Tests.{le-leb, lt-leb, lt-ltb, le-ltb}
+use borrow.Author.Tests.{le-leb, lt-leb, lt-ltb, le-ltb, ltb-true}
 use lib.Dec.{ltb, leb}
 use lib.ListN.{length, take, drop, getD, drop-of-length-le, length-append, length-drop}
-use lib.Seq.{drop-append-seam, drop-drop}
+use lib.Seq.{drop-append-seam, drop-drop, take-all, take-nil}
 use Rattle.text.specs.Bytes.{allBytes}
-use Rattle.text.specs.Split.{span, grown, pieces, filled, piecesAt, wordsAt, front, rest, runEnd, Within, NextWord}
+use Rattle.text.specs.Split.{span, bytesOf, grown, pieces, filled, piecesAt, wordsAt, front, rest, runEnd, NextWord}
 use Rattle.text.specs.declared.Span.{Span}
 use Rattle.text.proofs.Bytes.{drop-next}
 
@@ -84,8 +84,16 @@ module _ (p : ℕ → Bool) where
     pub run-fails : (e : ℕ) → e ≡ runEnd p at (drop at t) → e < length t → p (getD t e 0) ≡ false
     run-fails e q h = after-fails (drop at t) _ _ (sym run-rest ∙ (ap (λ (k : ℕ). drop k t) (sym q) ∙ drop-next t e 0 h))
 
-    pub all-from : at ≤ length t → leb (length t) (runEnd p at (drop at t)) ≡ allBytes p (drop at t)
-    all-from h = let e : at + length (drop at t) ≡ length t = omega (arith, length-drop at t) in rw (all-run (drop at t) at, e)
+    none-left : (i : ℕ) → length t ≤ i → leb (length t) (runEnd p i []) ≡ allBytes p []
+    unfolding runEnd allBytes
+    none-left i k = le-leb (length t) i k
+
+    pub all-from : leb (length t) (runEnd p at (drop at t)) ≡ allBytes p (drop at t)
+    all-from = go (decLe at (length t))
+      where
+        go : Dec (at ≤ length t) → leb (length t) (runEnd p at (drop at t)) ≡ allBytes p (drop at t)
+        go (yes h) = let e : at + length (drop at t) ≡ length t = omega (arith, length-drop at t) in rw (all-run (drop at t) at, e)
+        go (no h) = let k : length t ≤ at = omega arith in rw (drop-of-length-le t k) (none-left at k)
 
     -- a run's end, taken from an offset, is that taken from the next where the byte passes
     pub run-on : at < length t → p (getD t at 0) ≡ true → runEnd p at (drop at t) ≡ runEnd p (at + 1) (drop (at + 1) t)
@@ -175,52 +183,34 @@ module _ (sep : ℕ → Bool) where
       go false q ih = refl
 
   -- ---- what one call of next_word finds, from an offset of a text on
-  module _ (t : List ℕ) (at st e : ℕ) (h : at ≤ length t) (p : st ≡ runEnd sep at (drop at t)) (q : e ≡ runEnd outside st (drop st t)) where
+  module _ (t : List ℕ) (at st : ℕ) (p : st ≡ runEnd sep at (drop at t)) where
     lead : wordsAt sep t at ≡ wordsAt sep t st
     lead = rw p (words-lead (drop at t) at ∙ ap (λ (l : List ℕ). filled (pieces sep (runEnd sep at (drop at t)) l)) (sym (run-rest sep t at)))
 
-    st-in : st ≤ length t
-    st-in = omega (arith, p, run-within sep t at h)
+    nothing-past : (i : ℕ) → length t ≤ i → wordsAt sep t i ≡ []
+    nothing-past i k = rw (drop-of-length-le t k) (words-end i)
 
-    within : Within t (span st e)
-    within = record { ordered = omega (arith, q, run-from outside t st); inside = omega (arith, q, run-within outside t st st-in) }
+    pub next-none : length t ≤ st → NextWord sep t at (span (length t) (length t))
+    next-none k =
+        let none : wordsAt sep t at ≡ [] = lead ∙ nothing-past st k in
+        record {
+          found = rw none (unfold front in refl);
+          after = nothing-past (length t) (omega arith) ∙ rw none (unfold rest in refl);
+          forward = λ u. u;
+        }
 
-    no-word : length t ≤ st → wordsAt sep t at ≡ []
-    no-word k = lead ∙ rw (drop-of-length-le t k) (words-end st)
+    module _ (k : st < length t) (e : ℕ) (q : e ≡ runEnd outside st (drop st t)) where
+      first-word : wordsAt sep t at ≡ span st e ∷ wordsAt sep t e
+      first-word = lead ∙ rw (drop-next t st 0 k) (words-one st (getD t st 0) (drop (st + 1) t) (run-fails sep t at st p k) ∙ rw (← drop-next t st 0 k, ← run-rest outside t st, ← q))
 
-    first-word : st < length t → wordsAt sep t at ≡ span st e ∷ wordsAt sep t e
-    first-word k = lead ∙ rw (drop-next t st 0 k) (words-one st (getD t st 0) (drop (st + 1) t) (run-fails sep t at st p k) ∙ rw (← drop-next t st 0 k, ← run-rest outside t st, ← q))
-
-    -- a word has a byte
-    some-byte : st < length t → st < e
-    some-byte k = omega (arith, q, run-on outside t st k (ap not (run-fails sep t at st p k)), run-from outside t (st + 1))
-
-    at-end : length t ≤ st → e ≡ st
-    at-end k = q ∙ run-over outside t st k
-
-    pub next-word : NextWord sep t at (span st e)
-    next-word = go (decLt st (length t))
-      where
-        go : Dec (st < length t) → NextWord sep t at (span st e)
-        go (yes k) =
-            let b = some-byte k in
-            record {
-              found = rw (first-word k) (unfold front in refl);
-              after = rw (first-word k) (unfold rest in refl);
-              within = within;
-              forward = λ u. omega (arith, p, run-from sep t at, b);
-              none = λ u. absurd (omega arith);
-            }
-        go (no k) =
-            let l : length t ≤ st = omega arith in
-            let s : st ≡ length t = omega (arith, st-in) in
-            record {
-              found = rw (no-word l, at-end l, s) (unfold front in refl);
-              after = ap (wordsAt sep t) (at-end l) ∙ (sym lead ∙ rw (no-word l) (unfold rest in refl));
-              within = within;
-              forward = λ u. absurd (omega (arith, at-end l));
-              none = λ u. no-word l;
-            }
+      pub next-some : NextWord sep t at (span st e)
+      next-some =
+          let on : st < e = omega (arith, q, run-on outside t st k (ap not (run-fails sep t at st p k)), run-from outside t (st + 1)) in
+          record {
+            found = rw first-word (unfold front in refl);
+            after = rw first-word (unfold rest in refl);
+            forward = λ u. omega (arith, p, run-from sep t at, on);
+          }
 
   -- ---- the first piece from an offset of a text on; e is where the bytes that are no separator end
   module _ (t : List ℕ) (at e : ℕ) (q : e ≡ runEnd outside at (drop at t)) where
@@ -234,3 +224,56 @@ module _ (sep : ℕ → Bool) where
     pub piece-last : length t ≤ e → piecesAt sep t at ≡ span at e ∷ []
     unfolding others
     piece-last h = first-piece ∙ ap (λ (l : List ℕ). span at e ∷ others e l) (drop-of-length-le t h)
+
+-- ---- whether a word is left: the first one has a byte
+module _ (t : List ℕ) where
+  filled-front : (ps : List Span) → front t (filled ps) .end ≤ front t (filled ps) .start → filled ps ≡ []
+  unfolding filled front
+  filled-front [] h = refl
+  filled-front (p ∷ ps) h = go (ltb (p .start) (p .end)) refl h (filled-front ps)
+    where
+      go : (x : Bool) → ltb (p .start) (p .end) ≡ x → front t (cond x (p ∷ filled ps) (filled ps)) .end ≤ front t (cond x (p ∷ filled ps) (filled ps)) .start
+          → (front t (filled ps) .end ≤ front t (filled ps) .start → filled ps ≡ []) → cond x (p ∷ filled ps) (filled ps) ≡ []
+      go true e k ih = absurd (omega (arith, ltb-true (p .start) (p .end) e))
+      go false e k ih = ih k
+
+  pub no-word-left : (ws : List Span) → ws ≡ [] → front t ws .start < front t ws .end → ⊥
+  unfolding front
+  no-word-left [] e h = omega arith
+  no-word-left (w ∷ ws) e h = absurd (nil≢cons (sym e))
+
+  front-cons : (w : Span) (ws : List Span) → front t (w ∷ ws) ≡ w
+  unfolding front
+  front-cons w ws = refl
+
+  rest-cons : (w : Span) (ws : List Span) → rest (w ∷ ws) ≡ ws
+  unfolding rest
+  rest-cons w ws = refl
+
+  pub words-over : (sep : ℕ → Bool) (at : ℕ) → length t ≤ at → wordsAt sep t at ≡ []
+  words-over sep at h = rw (drop-of-length-le t h) (words-end sep at)
+
+  -- ---- what follows from an answer of next_word
+  module _ (sep : ℕ → Bool) (at : ℕ) (r : Span) (n : NextWord sep t at r) where
+    pub is-last : r .end ≤ r .start → wordsAt sep t at ≡ []
+    is-last h = filled-front (piecesAt sep t at) (rw (n .found) at h)
+
+    pub is-word : r .start < r .end → wordsAt sep t at ≡ r ∷ wordsAt sep t (r .end)
+    is-word h = go (wordsAt sep t at) refl
+      where
+        go : (ws : List Span) → wordsAt sep t at ≡ ws → wordsAt sep t at ≡ r ∷ wordsAt sep t (r .end)
+        go [] e = absurd (no-word-left (wordsAt sep t at) e (rw (n .found) at h))
+        go (w ∷ ws) e = e ∙ ap₂ _∷_ (sym (n .found ∙ ap (front t) e ∙ front-cons w ws)) (sym (n .after ∙ ap rest e ∙ rest-cons w ws))
+
+-- ---- the bytes of a span, as far as it lies in the text
+module _ (t : List ℕ) (p : Span) where
+  pub part-empty : p .end ≤ p .start → take 0 t ≡ bytesOf t p
+  part-empty h = let e : p .end - p .start ≡ 0 = omega arith in rw e
+
+  pub part-past : length t ≤ p .start → take 0 t ≡ bytesOf t p
+  part-past h = rw (drop-of-length-le t h) (sym (take-nil (p .end - p .start)))
+
+  pub part-cut : length t < p .end → p .start < length t → take (length t - p .start) (drop (p .start) t) ≡ bytesOf t p
+  part-cut h k =
+      let e : length (drop (p .start) t) ≡ length t - p .start = length-drop (p .start) t in
+      take-all (length t - p .start) (drop (p .start) t) (omega arith) ∙ sym (take-all (p .end - p .start) (drop (p .start) t) (omega arith))

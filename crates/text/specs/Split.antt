@@ -3,7 +3,7 @@
 use mathlib.Core.Path.{_≡_}
 use mathlib.Core.Bool.{Bool, cond}
 use mathlib.Core.List.{List, [], _∷_}
-use Prim.Native.Nat.{ℕ, _+_, _-_, _≤_, _<_}
+use Prim.Native.Nat.{ℕ, _+_, _-_, _<_}
 use lib.Dec.{ltb}
 use lib.ListN.{length, take, drop}
 use Rattle.text.specs.declared.Span.{Span}
@@ -51,15 +51,8 @@ unfoldable pub runEnd : (ℕ → Bool) → ℕ → List ℕ → ℕ
 runEnd p at [] = at
 runEnd p at (b ∷ bs) = cond (p b) (runEnd p (at + 1) bs) at
 
--- the span lies in the text
-pub record Within (t : List ℕ) (p : Span) : Type 0 where
-  pub ordered : p .start ≤ p .end
-  pub inside : p .end ≤ length t
-
 -- r is the first word from an offset on, and those after it are the words from its end on, which is further on
 pub record NextWord (sep : ℕ → Bool) (t : List ℕ) (at : ℕ) (r : Span) : Type 0 where
   pub found : r ≡ front t (wordsAt sep t at)
   pub after : wordsAt sep t (r .end) ≡ rest (wordsAt sep t at)
-  pub within : Within t r
-  pub forward : r .start < r .end → at < r .end
-  pub none : r .end ≤ r .start → wordsAt sep t at ≡ []
+  pub forward : at < length t → at < r .end

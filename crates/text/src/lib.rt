@@ -6,6 +6,7 @@ pub use digits::decimal;
 pub use split::all_from;
 pub use split::in_class;
 pub use split::next_word;
+pub use split::part;
 pub use split::run_end;
 pub use split::same_bytes;
 

@@ -2,8 +2,7 @@
 use super::Class;
 use super::Span;
 ghost use mathlib.Core.Path.{_≡_};
-ghost use Prim.Native.Nat.{_≤_};
-ghost use lib.ListN.{length, drop};
+ghost use lib.ListN.{drop};
 ghost use Rattle.text.specs.Bytes as b;
 ghost use Rattle.text.specs.Split as s;
 
@@ -46,7 +45,6 @@ pub fn run_end(class: Class, inside: bool, text: &[u8], at: usize) -> usize
 
 // Whether all bytes from an offset on are of a class.
 pub fn all_from(class: Class, text: &[u8], at: usize) -> bool
-    requires { ⌜ at ≤ length (now text) ⌝ }
     ensures { λ r. ⌜ r ≡ b.allBytes (b.inClass class) (drop at (now (text .entry))) ⌝ }
 {
     text.len() <= run_end(class, true, text, at)
@@ -54,12 +52,33 @@ pub fn all_from(class: Class, text: &[u8], at: usize) -> bool
 
 // The first word from an offset on; the empty one at the text's end where there is none.
 pub fn next_word(class: Class, text: &[u8], at: usize) -> Span
-    requires { ⌜ at ≤ length (now text) ⌝ }
     ensures { λ r. ⌜ s.NextWord (b.inClass class) (now (text .entry)) at r ⌝ }
 {
     let start = run_end(class, true, text, at);
+    let n = text.len();
+    if n <= start {
+        return Span { start: n, end: n };
+    }
     let end = run_end(class, false, text, start);
     Span { start, end }
+}
+
+// The bytes of a span, as far as it lies in the text.
+pub fn part(text: &[u8], span: Span) -> &[u8]
+    ensures { λ r. ⌜ now r ≡ s.bytesOf (now (text .entry)) span ⌝ }
+{
+    let a = span.start;
+    let e = span.end;
+    if e <= a {
+        return &text[..0];
+    }
+    if text.len() <= a {
+        return &text[..0];
+    }
+    if text.len() < e {
+        return &text[a..];
+    }
+    &text[a..e]
 }
 
 // Whether two texts hold the same bytes.

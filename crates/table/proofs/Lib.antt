@@ -1,0 +1,4 @@
+pub mod GrammarLaws
+pub mod NameLaws
+pub mod ReaderLaws
+pub mod TokenLaws

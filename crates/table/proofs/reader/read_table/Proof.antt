@@ -1,0 +1,98 @@
+-- `read_table` meets its contract. The invariant: the lines from at on decide, with the table so far. The measure is what is left
+-- of the text. Assumes nothing.
+use mathlib.Core.Path.{_≡_, refl, sym, ap, _∙_}
+use Prim.Native.Nat.{ℕ, _≤_, _<_, _+_, _-_}
+use mathlib.Core.List.{List}
+use native.Mathlib.Omega.{arith}
+use borrow.Author.Needs.{needs}
+use denote.Ref.{now}
+use lib.ListN.{length, take, length-take}
+use Rattle.text.specs.Bytes.{passes}
+use Rattle.text.specs.declared.Class.the-variants.{Newline}
+use Rattle.text.proofs.Runs.{run-from, run-within}
+use mathlib.Core.Bool.{false}
+use Rattle.table.specs.Reader.{step, stepOf, lineStep, onLine, readTable}
+use Rattle.table.specs.declared.Outcome.{Outcome}
+use Rattle.table.proofs.ReaderLaws.{LinesFrom, step-read, step-refused, lines-done, lines-stop, lines-on, refused-10, table-lines}
+use Rattle.table.proofs.reader.read_table.Statement.{statement}
+use Rattle.table.proofs.reader.read_table.Tie as tie
+
+abbrev Inv-loop : tie.InvT-loop
+Inv-loop text builder₀ line₀ at₀ builder line at = (line ≤ at + 1) × (length text ≤ 4096) × (LinesFrom text at line builder ≡ readTable text)
+
+abbrev μ-loop : tie.MeasureT-loop
+μ-loop text builder₀ line₀ at₀ builder line at = length text + 1 - at
+
+-- the text, and where the line that is read ends
+abbrev text : (l : tie.At-loop Inv-loop μ-loop) → List ℕ
+text l = now (l .before .before .before .before .args .text)
+
+module _ (e : tie.After-run-end Inv-loop μ-loop) where
+  abbrev l : tie.At-loop Inv-loop μ-loop
+  l = e .before .before
+
+  end-from : l .loop .at ≤ e .run-end .result
+  end-from = omega (arith, e .run-end .ensures, run-from (passes Newline false) (text l) (l .loop .at))
+
+  end-within : e .run-end .result ≤ length (text l)
+  end-within = omega (arith, e .run-end .ensures, run-within (passes Newline false) (text l) (l .loop .at) (e .before .loop-test .taken))
+
+-- what reading the line says
+stepped : (r : tie.After-read-line Inv-loop μ-loop) → (let e = r .before .before .before in let k = l e in
+    stepOf (r .read-line .result) ≡ lineStep (take (e .run-end .result) (text k)) (onLine (k .loop .line) (k .loop .builder)) (k .loop .at))
+stepped r = rw (← r .before .on-line .ensures) (r .read-line .ensures)
+
+loop-holds : tie.Need-loop-holds Inv-loop μ-loop
+loop-holds c =
+    let h = c .before .if1 .left in
+    (omega arith, h, rw (c .empty-table .ensures) (table-lines (now (c .before .before .before .args .text)) h))
+
+returns-2 : tie.Need-returns-2 Inv-loop μ-loop
+returns-2 c =
+    let r = c .before .before .before .before in
+    let e = r .before .before .before in
+    let k = l e in
+    let o = c .before .before .outcome .given .1 in
+    c .refused2 .ensures
+    ∙ sym (lines-stop (text k) (k .loop .at) (e .run-end .result) (k .loop .line) (k .loop .builder) (e .before .loop-test .taken) (e .run-end .ensures) _ (sym (stepped r) ∙ (ap (λ (x : Outcome). step x (r .read-line .result .builder)) o ∙ step-refused _ _)))
+    ∙ k .loop .inv .2
+
+loop-again : tie.Need-loop-again Inv-loop μ-loop
+loop-again c =
+    let r = c .before .before .before in
+    let e = r .before .before .before in
+    let k = l e in
+    let o = c .before .enum-told .given .1 in (
+      omega (arith, end-from e),
+      k .loop .inv .1,
+      sym (lines-on (text k) (k .loop .at) (e .run-end .result) (k .loop .line) (k .loop .builder) (e .before .loop-test .taken) (e .run-end .ensures) _ (sym (stepped r) ∙ (rw o (step-read _)))) ∙ k .loop .inv .2,
+    )
+
+returns-3 : tie.Need-returns-3 Inv-loop μ-loop
+returns-3 c =
+    let k = c .before .before in
+    sym (lines-done (text k) (k .loop .at) (k .loop .line) (k .loop .builder) (c .before .loop-test .left)) ∙ k .loop .inv .2
+
+pub read-table-spec : {M : Type 1} → statement M
+read-table-spec =
+    tie.close
+    (tie.spec
+    Inv-loop
+    μ-loop
+    (λ c κs. tt)
+    (λ c. c .refused .ensures ∙ sym (refused-10 _ (c .before .if1 .taken)))
+    (λ c κs. tt)
+    loop-holds
+    (λ c κs. tt)
+    (λ c. simp length-take (omega (arith, end-within (c .before))))
+    (λ c κs. tt)
+    (λ c κs. tt)
+    (λ c. c .match .keys1)
+    (λ c κs. tt)
+    returns-2
+    (λ c. c .match .keys2)
+    (λ c. omega (arith, end-within (c .before .before .before .before .before .before)))
+    (λ c. omega (arith, end-within (c .before .before .before .before .before .before)))
+    (λ c. omega (arith, end-from (c .before .before .before .before .before .before)))
+    loop-again
+    returns-3)

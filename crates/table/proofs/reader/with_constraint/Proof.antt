@@ -1,0 +1,21 @@
+-- `with_constraint` meets its contract. Assumes nothing.
+use borrow.Author.Needs.{needs}
+use borrow.Author.Tests.{le-leb, lt-leb}
+use Rattle.table.proofs.reader.with_constraint.Statement.{statement}
+use Rattle.table.proofs.reader.with_constraint.Tie as tie
+
+returns-2 : tie.Need-returns-2
+returns-2 c =
+    let e = c .before .before in
+    rw (lt-leb 64 (e .before .before .args .builder .table .count) (e .if1 .left), c .with-defined .ensures)
+
+pub with-constraint-spec : {M : Type 1} → statement M
+with-constraint-spec =
+    tie.close
+    (tie.spec
+    (λ c. rw (le-leb 64 (c .before .before .args .builder .table .count) (c .if1 .taken)))
+    (λ c. search needs)
+    (λ c. search needs)
+    (λ c. search needs)
+    (λ c κs. tt)
+    returns-2)

@@ -1,0 +1,281 @@
+// Lines in their order, each with its checks in theirs, and the whole table.
+use super::Builder;
+use super::Check;
+use super::LineRead;
+use super::Names;
+use super::Outcome;
+use super::Table;
+use super::TableRead;
+use super::Token;
+use super::line::await_number;
+use super::line::is_name;
+use super::line::line_form;
+use super::naming::with_words;
+use super::words::token_at;
+use constraint::Constraint;
+use limit::Limit;
+use limit::Place;
+use limit::Refusal;
+use text::Class;
+use text::Span;
+ghost use mathlib.Core.Path.{_≡_};
+ghost use Rattle.text.specs.Split.{bytesOf};
+ghost use Rattle.table.specs.Grammar.{lineWords};
+ghost use Rattle.table.specs.Reader as d;
+
+// Whether a word stands again among those from an offset on.
+fn stands_again(line: &[u8], word: Span, from: usize) -> bool
+    ensures { λ r. ⌜ r ≡ d.anyWord (d.sameAs (now (line .entry)) (bytesOf (now (line .entry)) word)) (lineWords (now (line .entry)) from) ⌝ }
+{
+    let bytes = text::part(line, word);
+    let mut at = from;
+    while at < line.len() {
+        let next = text::next_word(Class::Space, line, at);
+        if next.end <= next.start {
+            return false;
+        }
+        if text::same_bytes(text::part(line, next), bytes) {
+            return true;
+        }
+        at = next.end;
+    }
+    false
+}
+
+// A name over 16 bytes.
+fn long_name(line: &[u8], word: Span) -> bool
+    ensures { λ r. ⌜ r ≡ d.longName (now (line .entry)) word ⌝ }
+{
+    let bytes = text::part(line, word);
+    is_name(token_at(line, word)) & (16 < bytes.len())
+}
+
+// `await` with a number outside 1 to 1,000,000 behind it.
+fn bad_number(line: &[u8], word: Span) -> bool
+    ensures { λ r. ⌜ r ≡ d.badNumber (now (line .entry)) word (lineWords (now (line .entry)) (word .end)) ⌝ }
+{
+    let token = token_at(line, word);
+    let Token::Await = token else {
+        return false;
+    };
+    let number = text::next_word(Class::Space, line, word.end);
+    await_number(text::part(line, number)) == 0
+}
+
+// A name that stands again behind it.
+fn named_twice(line: &[u8], word: Span) -> bool
+    ensures { λ r. ⌜ r ≡ d.twice (now (line .entry)) word (lineWords (now (line .entry)) (word .end)) ⌝ }
+{
+    is_name(token_at(line, word)) & stands_again(line, word, word.end)
+}
+
+// Whether a word fails a check.
+fn fails(check: Check, line: &[u8], word: Span) -> bool
+    ensures { λ r. ⌜ r ≡ d.fails check (now (line .entry)) word (lineWords (now (line .entry)) (word .end)) ⌝ }
+{
+    match check {
+        Check::LongName => long_name(line, word),
+        Check::BadNumber => bad_number(line, word),
+        Check::Twice => named_twice(line, word),
+    }
+}
+
+// Whether some word from an offset on fails a check.
+fn any_word(check: Check, line: &[u8], from: usize) -> bool
+    ensures { λ r. ⌜ r ≡ d.anyWord (d.fails check (now (line .entry))) (lineWords (now (line .entry)) from) ⌝ }
+{
+    let mut at = from;
+    while at < line.len() {
+        let word = text::next_word(Class::Space, line, at);
+        if word.end <= word.start {
+            return false;
+        }
+        if fails(check, line, word) {
+            return true;
+        }
+        at = word.end;
+    }
+    false
+}
+
+// The answer that a line breaks a limit.
+fn refuse(builder: Builder, limit: Limit) -> LineRead
+    ensures { λ r. ⌜ d.stepOf r ≡ d.stop limit builder ⌝ }
+{
+    let place = builder.line;
+    LineRead {
+        outcome: Outcome::Refused(Refusal { limit, place }),
+        builder,
+    }
+}
+
+// The table with one constraint more, on the line that is read.
+fn with_constraint(builder: Builder, constraint: Constraint) -> Builder
+    ensures { λ r. ⌜ r ≡ d.withConstraint builder constraint ⌝ }
+{
+    let table = builder.table;
+    let count = table.count;
+    if 64 <= count {
+        return builder;
+    }
+    let line = builder.line;
+    let mut own = constraint;
+    own.line = line;
+    let mut more = table;
+    more.records[count] = own;
+    more.count = count + 1;
+    Builder {
+        table: more,
+        defined: constraint::with_defined(builder.defined, own),
+        line,
+    }
+}
+
+// Checks 16, 17 and 18 of a line's constraint.
+fn add_line(builder: Builder, constraint: Constraint) -> LineRead
+    ensures { λ r. ⌜ d.stepOf r ≡ d.addLine builder constraint ⌝ }
+{
+    let table = builder.table;
+    let names = table.names;
+    if constraint::defines_again(builder.defined, constraint) {
+        return refuse(builder, Limit::DefinedTwice);
+    }
+    if names.over {
+        return refuse(builder, Limit::TableClocks);
+    }
+    if 64 <= table.count {
+        return refuse(builder, Limit::TableConstraints);
+    }
+    LineRead {
+        outcome: Outcome::Read,
+        builder: with_constraint(builder, constraint),
+    }
+}
+
+// The table with the names of the words from an offset on.
+fn with_names(line: &[u8], builder: Builder, from: usize) -> Builder
+    ensures { λ r. ⌜ r ≡ d.withNames (now (line .entry)) builder (lineWords (now (line .entry)) from) ⌝ }
+{
+    let table = builder.table;
+    let records = table.records;
+    let names = table.names;
+    let place = builder.line;
+    Builder {
+        table: Table {
+            records,
+            count: table.count,
+            names: with_words(line, names, from),
+        },
+        defined: builder.defined,
+        line: place,
+    }
+}
+
+// Checks 12 to 18 of a line that has words.
+fn read_words(line: &[u8], builder: Builder, from: usize) -> LineRead
+    ensures { λ r. ⌜ d.stepOf r ≡ d.wordsStep (now (line .entry)) builder (lineWords (now (line .entry)) from) ⌝ }
+{
+    let form = line_form(line, with_names(line, builder, from), from);
+    if !form.fits {
+        return refuse(builder, Limit::LineForm);
+    }
+    if any_word(Check::LongName, line, from) {
+        return refuse(builder, Limit::NameLength);
+    }
+    if any_word(Check::BadNumber, line, from) {
+        return refuse(builder, Limit::AwaitNumber);
+    }
+    if any_word(Check::Twice, line, from) {
+        return refuse(builder, Limit::ClockTwice);
+    }
+    let formed = form.builder;
+    let constraint = form.constraint;
+    add_line(formed, constraint)
+}
+
+// A line, from an offset of the text that ends with it.
+fn read_line(line: &[u8], builder: Builder, from: usize) -> LineRead
+    ensures { λ r. ⌜ d.stepOf r ≡ d.lineStep (now (line .entry)) builder from ⌝ }
+{
+    if !text::all_from(Class::Printable, line, from) {
+        return refuse(builder, Limit::LineByte);
+    }
+    let word = text::next_word(Class::Space, line, from);
+    if word.start < word.end {
+        return read_words(line, builder, from);
+    }
+    LineRead {
+        outcome: Outcome::Read,
+        builder,
+    }
+}
+
+// A table with no constraint and no name.
+fn empty_table() -> Table
+    ensures { λ r. ⌜ r ≡ d.emptyTable ⌝ }
+{
+    Table {
+        records: [constraint::empty(); 64],
+        count: 0,
+        names: Names {
+            spans: [Span { start: 0, end: 0 }; 32],
+            count: 0,
+            over: false,
+        },
+    }
+}
+
+// The answer that a table breaks a limit.
+fn refused(refusal: Refusal) -> TableRead
+    ensures { λ r. ⌜ d.told r ≡ d.refusedTable refusal ⌝ }
+{
+    TableRead {
+        outcome: Outcome::Refused(refusal),
+        table: empty_table(),
+    }
+}
+
+// The builder on a line.
+fn on_line(builder: Builder, line: usize) -> Builder
+    ensures { λ r. ⌜ r ≡ d.onLine line builder ⌝ }
+{
+    let place = Place(line);
+    let mut moved = builder;
+    moved.line = place;
+    moved
+}
+
+// The table that a text says, or the first refusal.
+pub fn read_table(text: &[u8]) -> TableRead
+    ensures { λ r. ⌜ d.told r ≡ d.readTable (now (text .entry)) ⌝ }
+{
+    if 4096 < text.len() {
+        return refused(Refusal {
+            limit: Limit::TableLength,
+            place: Place(0),
+        });
+    }
+    let mut builder = Builder {
+        table: empty_table(),
+        defined: 0,
+        line: Place(0),
+    };
+    let mut line = 1;
+    let mut at = 0;
+    while at <= text.len() {
+        let end = text::run_end(Class::Newline, false, text, at);
+        let step = read_line(&text[..end], on_line(builder, line), at);
+        let outcome = step.outcome;
+        if let Outcome::Refused(refusal) = outcome {
+            return refused(refusal);
+        }
+        builder = step.builder;
+        line += 1;
+        at = end + 1;
+    }
+    let table = builder.table;
+    TableRead {
+        outcome: Outcome::Read,
+        table,
+    }
+}

@@ -1,0 +1,107 @@
+// What the reader of a table answers, as lines: the refusal, or the names of the clocks and the constraints.
+use super::print::say;
+use super::print::say_field;
+use super::print::say_kind;
+use super::print::say_word;
+use constraint::Constraint;
+use limit::Refusal;
+use table::Names;
+use table::Outcome;
+use table::Table;
+use text::Span;
+
+// The limit's number and the place of a refusal.
+fn refused(refusal: Refusal) {
+    let limit = refusal.limit;
+    let place = refusal.place;
+    say_field(b"refused ", limit::number(limit) as u64);
+    say_field(b" ", place.0 as u64);
+    say(b"\n");
+}
+
+// The name of a clock, behind a space.
+fn name(text: &[u8], span: Span) {
+    say(b" ");
+    say(text::part(text, span));
+}
+
+// The names of the clocks.
+fn names(text: &[u8], all: Names) {
+    let count = all.count;
+    let mut i: usize = 0;
+    while i < count {
+        if 32 <= i {
+            return;
+        }
+        let span = all.spans[i];
+        name(text, span);
+        i += 1;
+    }
+}
+
+// The line of the clocks' names, where there is a clock.
+fn clocks(text: &[u8], all: Names) {
+    if all.count == 0 {
+        return;
+    }
+    say(b"  clocks");
+    names(text, all);
+    say(b"\n");
+}
+
+// The clocks, the number and the start word of a constraint.
+fn fields(record: Constraint) {
+    let parameter = record.parameter;
+    say_field(b" c ", record.defined as u64);
+    say_field(b" a ", record.first as u64);
+    say_field(b" b ", record.second as u64);
+    say_field(b" n ", parameter.0 as u64);
+    say(b" w ");
+    say_word(constraint::start(record));
+}
+
+// The line of a constraint.
+fn constraint_line(record: Constraint) {
+    let line = record.line;
+    let kind = record.kind;
+    say_field(b"  ", line.0 as u64);
+    say(b" ");
+    say_kind(kind);
+    fields(record);
+    say(b"\n");
+}
+
+// A line for each constraint.
+fn constraints(records: [Constraint; 64], count: usize) {
+    let mut i: usize = 0;
+    while i < count {
+        if 64 <= i {
+            return;
+        }
+        let record = records[i];
+        constraint_line(record);
+        i += 1;
+    }
+}
+
+// The lines of a table that was read.
+fn read(text: &[u8], table: Table) {
+    let names = table.names;
+    let records = table.records;
+    say_field(b"read, ", names.count as u64);
+    say_field(b" clocks, ", table.count as u64);
+    say(b" constraints\n");
+    clocks(text, names);
+    constraints(records, table.count);
+}
+
+// What the reader answers to a text.
+pub fn answer(text: &[u8]) {
+    let answer = table::read_table(text);
+    let outcome = answer.outcome;
+    let table = answer.table;
+    match outcome {
+        Outcome::Read => read(text, table),
+        Outcome::Refused(refusal) => refused(refusal),
+    }
+}
