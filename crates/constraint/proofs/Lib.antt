@@ -1,10 +1,11 @@
 pub mod Booleans
+pub mod Demand3
 pub mod Edges
 pub mod Laws
 pub mod Letters
 pub mod Named
+pub mod OneMore
 pub mod OneRecord
-pub mod Demand3
 pub mod TickSets
 pub mod Walk
 pub mod Words

@@ -46,7 +46,7 @@ slots-done (suc n) (r ∷ rs) (suc i) h = slots-done n rs i (omega arith)
 -- ---- limit 59
 
 -- the clocks that a record and earlier ones define, as a number
-defined-bits : (clocks f : ℕ) (r : Constraint) → clocks ≤ 32 → wellFormed clocks r ≡ true → bits (withTicks f (definedOf r)) ≡ addingAll (definedOf r) (bits f)
+pub defined-bits : (clocks f : ℕ) (r : Constraint) → clocks ≤ 32 → wellFormed clocks r ≡ true → bits (withTicks f (definedOf r)) ≡ addingAll (definedOf r) (bits f)
 defined-bits clocks f r h e =
     go (r .kind) (r .first) (r .second) (r .defined) (and-l (allBelow clocks (clocksOf r)) _ (and-l (clocksFit clocks (clocksOf r)) _ e))
   where

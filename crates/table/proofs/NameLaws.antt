@@ -1,6 +1,6 @@
 -- Looking a name up, name by name, and numbering the names of a line, word by word. Assumes nothing.
 use mathlib.Core.Path.{_≡_, refl, sym, ap, _∙_}
-use mathlib.Core.Bool.{Bool, true, false, cond}
+use mathlib.Core.Bool.{true, false, cond}
 use mathlib.Core.List.{List, [], _∷_}
 use Prim.Native.Nat.{ℕ, _+_, _-_, _≤_, _<_}
 use native.Mathlib.Decide.{decLt}
@@ -8,7 +8,7 @@ use native.Mathlib.Omega.{arith}
 use lib.ListN.{length, take, drop, getD, length-take, drop-of-length-le}
 use lib.Seq.{getD-take}
 use Rattle.text.specs.Bytes.{inClass, sameBytes}
-use Rattle.text.specs.Split.{bytesOf, wordsAt, front, rest, NextWord}
+use Rattle.text.specs.Split.{bytesOf, wordsAt, rest, NextWord}
 use Rattle.text.specs.declared.Class.the-variants.{Space}
 use Rattle.text.specs.declared.Span.{Span}
 use Rattle.text.proofs.Bytes.{drop-next}

@@ -1,5 +1,6 @@
 -- Lines in their order, each with its checks in theirs: document 01, "Table text" and the first two rows of "Where each refusal is
 -- checked". Assumes nothing.
+use mathlib.Core.Path.{_≡_}
 use mathlib.Core.Bool.{Bool, true, false, not, cond, _&&_, _||_}
 use mathlib.Core.List.{List, [], _∷_}
 use Prim.Native.Nat.{ℕ, _+_}
@@ -10,9 +11,10 @@ use Rattle.limit.specs.declared.Limit.{Limit}
 use Rattle.limit.specs.declared.Limit.the-variants.{TableLength, LineByte, LineForm, NameLength, AwaitNumber, ClockTwice, DefinedTwice, TableClocks, TableConstraints}
 use Rattle.limit.specs.declared.Place.{Place}
 use Rattle.limit.specs.declared.Refusal.{Refusal}
-use Rattle.constraint.specs.Lists.{empty}
+use Rattle.constraint.specs.Lists.{empty, slots, brokenRecord, brokenWord, startWords}
 use Rattle.constraint.specs.Meaning.{definedOf}
 use Rattle.constraint.specs.Ticks.{any, bits, withTicks}
+use Rattle.constraint.specs.declared.Broken.the-variants.{Nowhere}
 use Rattle.constraint.specs.declared.Constraint.{Constraint}
 use Rattle.text.specs.Bytes.{inClass, allBytes, sameBytes}
 use Rattle.text.specs.Split.{span, bytesOf, piecesAt, front}
@@ -178,3 +180,13 @@ unfoldable pub readTable : List ℕ → Told
 readTable t =
     cond (leb (length t) 4_096) (readLines t 1 start (piecesAt (inClass Newline) t 0))
     (refusedTable (record { limit = TableLength; place = record { 0 = 0 } }))
+
+-- ---- a theorem: the calls on records refuse nothing that the reader made
+
+-- 59 lets a table's records pass with its clock count, and 60 their start words
+pub record Passes (table : Table) : Type 0 where
+  pub records : brokenRecord (table .names .count) (slots (table .count) (table .records)) ≡ Nowhere
+  pub words : brokenWord (slots (table .count) (table .records)) (startWords (table .records)) ≡ Nowhere
+
+abbrev pub EveryTablePasses : Type 0
+EveryTablePasses = (t : List ℕ) → readTable t .said ≡ read → Passes (readTable t .table)

@@ -1,10 +1,9 @@
 -- `await_side` meets its contract. Assumes nothing.
-use mathlib.Core.Path.{_≡_, refl, sym, ap, _∙_}
-use mathlib.Core.List.{List, [], _∷_}
+use mathlib.Core.Path.{refl, sym, ap, _∙_}
+use mathlib.Core.List.{[], _∷_}
 use borrow.Author.Tests.{not-true, not-false}
 use denote.Ref.{now}
 use types.Run.{miss}
-use Rattle.text.specs.declared.Span.{Span}
 use Rattle.table.specs.Grammar.{lineWords, operand}
 use Rattle.table.specs.declared.Token.the-variants.{Digits}
 use Rattle.table.proofs.GrammarLaws.{token-read, operand-not, operand-is, form-not, form-is, await-none, await-operand, await-some}

@@ -1,9 +1,9 @@
 -- `kind_at` meets its contract. Assumes nothing.
-use mathlib.Core.Path.{_≡_, refl, sym, ap, _∙_}
+use mathlib.Core.Path.{sym, ap, _∙_}
 use mathlib.Core.List.{[], _∷_}
 use denote.Ref.{now}
 use types.Run.{miss}
-use Rattle.table.specs.Grammar.{lineWords, plain, strictKind}
+use Rattle.table.specs.Grammar.{plain, strictKind}
 use Rattle.table.specs.declared.Token.the-variants.{Strictly}
 use Rattle.table.proofs.GrammarLaws.{token-read, token-second, kind-read-one, kind-read-two}
 use Rattle.table.proofs.TokenLaws.{is-other, is-same}

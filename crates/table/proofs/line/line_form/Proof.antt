@@ -1,5 +1,5 @@
 -- `line_form` meets its contract. Assumes nothing.
-use mathlib.Core.Path.{_≡_, refl, sym, ap, _∙_}
+use mathlib.Core.Path.{sym, _∙_}
 use denote.Ref.{now}
 use Rattle.table.specs.Grammar.{lineWords, operand}
 use Rattle.table.proofs.GrammarLaws.{token-read, token-second, after-second, line-defines, line-relates}

@@ -1,5 +1,5 @@
 -- `operand` meets its contract. Assumes nothing.
-use mathlib.Core.Path.{_≡_, refl, sym, _∙_}
+use mathlib.Core.Path.{refl, sym, _∙_}
 use mathlib.Core.List.{[], _∷_}
 use denote.Ref.{now}
 use types.Run.{miss}

@@ -1,5 +1,5 @@
 -- `add_line` meets its contract: check by check. Assumes nothing.
-use mathlib.Core.Path.{_≡_, sym, ap, _∙_}
+use mathlib.Core.Path.{sym, ap, _∙_}
 use borrow.Author.Tests.{le-leb, lt-leb}
 use Rattle.table.specs.Reader.{next}
 use Rattle.table.proofs.ReaderLaws.{step-read, refused-16, refused-17, refused-18, added}

@@ -1,5 +1,4 @@
 -- `bad_number` meets its contract. Assumes nothing.
-use mathlib.Core.Path.{_≡_, refl, sym, ap, _∙_}
 use mathlib.Core.List.{[], _∷_}
 use types.Run.{miss}
 use Rattle.table.specs.declared.Token.the-variants.{Await}

@@ -1,5 +1,5 @@
 -- `read_words` meets its contract: check by check. Assumes nothing.
-use mathlib.Core.Path.{_≡_, sym, ap, _∙_}
+use mathlib.Core.Path.{_≡_, sym, _∙_}
 use borrow.Author.Tests.{not-true, not-false}
 use denote.Ref.{now}
 use Rattle.table.specs.Grammar.{parsed, lineWords, operand, lineForm, formRead}
