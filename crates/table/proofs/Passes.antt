@@ -10,7 +10,7 @@ use lib.Dec.{leb}
 use lib.ListN.{length, take, drop, length-append}
 use Rattle.limit.specs.declared.Limit.{Limit}
 use Rattle.limit.specs.declared.Limit.the-variants.{TableLength, LineByte, NameLength, AwaitNumber, ClockTwice, DefinedTwice, TableClocks, TableConstraints}
-use Rattle.constraint.specs.Lists.{slots, firstUnfit}
+use Rattle.constraint.specs.Lists.{slots, firstUnfit, brokenRecord, brokenWord, startWords}
 use Rattle.constraint.specs.Meaning.{definedOf, clocksOf, wellFormed}
 use Rattle.constraint.specs.Ticks.{none, any, addingAll, bits}
 use Rattle.constraint.specs.declared.Broken.the-variants.{Nowhere}
@@ -123,9 +123,11 @@ module _ (t : List ℕ) (b : Builder) (g : Good b) where
 good-passes : (b : Builder) → Good b → Passes (b .table)
 good-passes b g =
     let e : slots (b .table .count) (b .table .records) ≡ g .listed = rw (g .records, g .count) (slots-slots 64 (g .listed) (g .most)) in
+    let p59 : brokenRecord (b .table .names .count) (g .listed) ≡ Nowhere = rw (le-leb (b .table .names .count) 32 (g .room), g .fit) in
+    let p60 : brokenWord (g .listed) (startWords (b .table .records)) ≡ Nowhere = rw (g .records) (start-passes 1 64 (g .listed)) in
     record {
-      records = rw (e, le-leb (b .table .names .count) 32 (g .room), g .fit);
-      words = rw (e, g .records) (start-passes 1 64 (g .listed));
+      records = ap (brokenRecord (b .table .names .count)) e ∙ p59;
+      words = ap (λ rs. brokenWord rs (startWords (b .table .records))) e ∙ p60;
     }
 
 lines-pass : (t : List ℕ) (n : ℕ) (b : Builder) (ls : List Span) → Good b → readLines t n b ls .said ≡ read → Passes (readLines t n b ls .table)
