@@ -31,7 +31,7 @@ use Rattle.table.specs.declared.Builder.{Builder}
 use Rattle.table.specs.declared.Check.the-variants.{BadNumber}
 use Rattle.table.specs.declared.Names.{Names}
 use Rattle.table.specs.declared.Token.the-variants.{End, Other, Name, Digits, ClockDef, Await, Strictly}
-use Rattle.table.proofs.KnownNames.{nameClocks}
+use Rattle.table.proofs.NamesKnown.{nameClocks}
 
 -- ---- some of a list, in their order
 abbrev pub Within : List ℕ → List ℕ → Type 0

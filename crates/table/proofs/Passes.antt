@@ -29,7 +29,7 @@ use Rattle.table.specs.declared.Builder.{Builder}
 use Rattle.table.specs.declared.Check.the-variants.{LongName, BadNumber, Twice}
 use Rattle.table.specs.declared.Names.{Names}
 use Rattle.table.proofs.FormClocks.{within-below, within-distinct, Each, Line, line-made}
-use Rattle.table.proofs.KnownNames.{AllKnown, Grown, all-words, nameClocks, names-below, names-distinct}
+use Rattle.table.proofs.NamesKnown.{AllKnown, Grown, all-words, nameClocks, names-below, names-distinct}
 
 -- ---- what every builder has
 record Good (b : Builder) : Type 0 where
@@ -128,6 +128,9 @@ good-passes b g =
     record {
       records = ap (brokenRecord (b .table .names .count)) e ∙ p59;
       words = ap (λ rs. brokenWord rs (startWords (b .table .records))) e ∙ p60;
+      constraints = omega (arith, g .count, g .most);
+      clocks = g .room;
+      unused = g .records ∙ ap (slots 64) (sym e);
     }
 
 lines-pass : (t : List ℕ) (n : ℕ) (b : Builder) (ls : List Span) → Good b → readLines t n b ls .said ≡ read → Passes (readLines t n b ls .table)

@@ -3,7 +3,7 @@
 use mathlib.Core.Path.{_≡_}
 use mathlib.Core.Bool.{Bool, true, false, not, cond, _&&_, _||_}
 use mathlib.Core.List.{List, [], _∷_}
-use Prim.Native.Nat.{ℕ, _+_}
+use Prim.Native.Nat.{ℕ, _+_, _≤_}
 use lib.Dec.{eqb, ltb, leb}
 use lib.ListN.{length, take, drop, set, replicate}
 use Rattle.limit.specs.Limit.{numberOf}
@@ -183,10 +183,14 @@ readTable t =
 
 -- ---- a theorem: the calls on records refuse nothing that the reader made
 
--- 59 lets a table's records pass with its clock count, and 60 their start words
+-- 59 lets a table's records pass with its clock count, and 60 their start words; there is room for both, and the slots behind the
+-- records are empty
 pub record Passes (table : Table) : Type 0 where
   pub records : brokenRecord (table .names .count) (slots (table .count) (table .records)) ≡ Nowhere
   pub words : brokenWord (slots (table .count) (table .records)) (startWords (table .records)) ≡ Nowhere
+  pub constraints : table .count ≤ 64
+  pub clocks : table .names .count ≤ 32
+  pub unused : table .records ≡ slots 64 (slots (table .count) (table .records))
 
 abbrev pub EveryTablePasses : Type 0
 EveryTablePasses = (t : List ℕ) → readTable t .said ≡ read → Passes (readTable t .table)

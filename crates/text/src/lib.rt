@@ -24,6 +24,8 @@ pub enum Class {
     Letter,
     Digit,
     NameByte,
+    Parting,
+    Recorded,
 }
 
 // A word read as a number.

@@ -12,6 +12,7 @@ pub fn in_class(class: Class, byte: u8) -> bool
 {
     let letter = (65 <= byte) & (byte <= 90) | (97 <= byte) & (byte <= 122);
     let digit = (48 <= byte) & (byte <= 57);
+    let parting = (byte == 9) | (byte == 10) | (byte == 13) | (byte == 32);
     match class {
         Class::Newline => byte == 10,
         Class::Space => byte == 32,
@@ -19,6 +20,8 @@ pub fn in_class(class: Class, byte: u8) -> bool
         Class::Letter => letter,
         Class::Digit => digit,
         Class::NameByte => letter | digit | (byte == 95),
+        Class::Parting => parting,
+        Class::Recorded => parting | (33 <= byte) & (byte <= 126),
     }
 }
 
