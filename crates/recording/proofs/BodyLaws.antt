@@ -1,0 +1,84 @@
+-- A word of the body by its first byte. Assumes nothing.
+use mathlib.Core.Path.{_≡_, refl, sym, ap, _∙_}
+use mathlib.Core.Bool.{Bool, true, false, false≢true}
+use mathlib.Core.List.{List, [], _∷_}
+use Prim.Native.Nat.{ℕ, _-_, _≤_, _<_}
+use native.Mathlib.Omega.{arith}
+use lib.Dec.{eqb}
+use lib.ListN.{length, take, drop, getD}
+use lib.Seq.{take-all}
+use Rattle.limit.specs.declared.Limit.the-variants.{BodyWord}
+use Rattle.text.specs.Digits.{number}
+use Rattle.recording.specs.Body.{opensMark, levelOf, markTurn, variableTurn, levelTurn, changeTurn, wordTurn}
+use Rattle.recording.specs.Checks.{stopped}
+use Rattle.recording.specs.Variables.{Variable}
+use Rattle.recording.specs.declared.Level.{Level}
+use Rattle.recording.specs.declared.Level.the-variants.{Tick, NoTick, NoChange}
+use Rattle.recording.specs.declared.Marked.{Marked}
+
+pub opens-none : (w : List ℕ) → length w ≡ 0 → false ≡ opensMark w
+opens-none [] e = refl
+opens-none (b ∷ bs) e = absurd (omega arith)
+
+pub opens-some : (w : List ℕ) → (length w ≡ 0 → ⊥) → eqb (getD w 0 0) 35 ≡ opensMark w
+opens-some [] h = absurd (h refl)
+opens-some (b ∷ bs) h = refl
+
+pub opens-byte : (w : List ℕ) → opensMark w ≡ true → 1 ≤ length w
+opens-byte [] e = absurd (false≢true e)
+opens-byte (b ∷ bs) e = omega arith
+
+-- the bytes behind the first, as code lends them
+abbrev pub tail : List ℕ → List ℕ
+tail w = take (length w - 1) (drop 1 w)
+
+pub behind : (w : List ℕ) → tail w ≡ drop 1 w
+behind [] = refl
+behind (b ∷ bs) = take-all (length (b ∷ bs) - 1) bs (omega arith)
+
+module _ (vs : List Variable) (o : Marked) (at : ℕ) (w : List ℕ) where
+  pub change-short : length w < 2 → changeTurn vs o at w ≡ stopped BodyWord at
+  change-short h = go w h
+    where
+      go : (w : List ℕ) → length w < 2 → changeTurn vs o at w ≡ stopped BodyWord at
+      go [] h = unfold changeTurn in refl
+      go (b ∷ []) h = unfold changeTurn levelTurn in refl
+      go (b ∷ c ∷ bs) h = absurd (omega arith)
+
+  module _ (h : 2 ≤ length w) where
+    change-is : (l : Level) → levelOf (getD w 0 0) ≡ l → changeTurn vs o at w ≡ levelTurn vs o at l (drop 1 w)
+    change-is l e = go w h e
+      where
+        go : (w : List ℕ) → 2 ≤ length w → levelOf (getD w 0 0) ≡ l → changeTurn vs o at w ≡ levelTurn vs o at l (drop 1 w)
+        go [] h e = absurd (omega arith)
+        go (b ∷ bs) h e = unfold changeTurn in ap (λ (x : Level). levelTurn vs o at x bs) e
+
+    level-id : (l : Level) (tick : Bool) → ((i : ℕ) (is : List ℕ) → levelTurn vs o at l (i ∷ is) ≡ variableTurn vs o at tick (i ∷ is))
+        → levelTurn vs o at l (drop 1 w) ≡ variableTurn vs o at tick (drop 1 w)
+    level-id l tick f = go w h
+      where
+        go : (w : List ℕ) → 2 ≤ length w → levelTurn vs o at l (drop 1 w) ≡ variableTurn vs o at tick (drop 1 w)
+        go [] h = absurd (omega arith)
+        go (b ∷ []) h = absurd (omega arith)
+        go (b ∷ i ∷ is) h = f i is
+
+    pub change-tick : levelOf (getD w 0 0) ≡ Tick → changeTurn vs o at w ≡ variableTurn vs o at true (tail w)
+    change-tick e = change-is Tick e ∙ level-id Tick true (λ i is. unfold levelTurn in refl) ∙ ap (variableTurn vs o at true) (sym (behind w))
+
+    pub change-no-tick : levelOf (getD w 0 0) ≡ NoTick → changeTurn vs o at w ≡ variableTurn vs o at false (tail w)
+    change-no-tick e = change-is NoTick e ∙ level-id NoTick false (λ i is. unfold levelTurn in refl) ∙ ap (variableTurn vs o at false) (sym (behind w))
+
+    pub change-other : levelOf (getD w 0 0) ≡ NoChange → changeTurn vs o at w ≡ stopped BodyWord at
+    change-other e = change-is NoChange e ∙ go (drop 1 w)
+      where
+        go : (id : List ℕ) → levelTurn vs o at NoChange id ≡ stopped BodyWord at
+        go [] = unfold levelTurn in refl
+        go (i ∷ is) = unfold levelTurn in refl
+
+  pub word-mark : opensMark w ≡ true → wordTurn vs o at w ≡ markTurn o at (number (drop 1 w))
+  unfolding wordTurn
+  word-mark e = rw e
+
+  pub word-change : opensMark w ≡ false → wordTurn vs o at w ≡ changeTurn vs o at w
+  unfolding wordTurn
+  word-change e = rw e

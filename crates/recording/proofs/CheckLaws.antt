@@ -1,0 +1,47 @@
+-- A check that is broken, and one that is passed. Assumes nothing.
+use mathlib.Core.Path.{_≡_, refl}
+use mathlib.Core.List.{List}
+use mathlib.Core.Bool.{Bool, true, false}
+use Prim.Native.Nat.{ℕ}
+use Rattle.limit.specs.declared.Limit.{Limit}
+use Rattle.limit.specs.declared.Refusal.{Refusal}
+use Rattle.table.specs.declared.Outcome.{Outcome}
+use Rattle.table.specs.declared.Outcome.the-variants.{Read, Refused}
+use Rattle.text.specs.declared.Span.{Span}
+use Rattle.recording.specs.Checks.{Checked, stopped, refuseIf, andThen, checked}
+use Rattle.recording.specs.Header.{Header}
+use Rattle.recording.specs.Variables.{Variable}
+
+module _ {A : Type 0} (x : Bool) (l : Limit) (p : ℕ) (c : Checked A) where
+  pub refuses : x ≡ true → refuseIf x l p c ≡ stopped l p
+  refuses e = rw e
+
+  pub allows : x ≡ false → refuseIf x l p c ≡ c
+  allows e = rw e
+
+-- a variable more, and the words after it, are what is left of a header
+pub left-after : (o : Outcome) (vs : List Variable) (us : List Span) (f : List Variable → List Span → Checked Header)
+    → andThen (checked o vs) (λ v. f v us) ≡ andThen {A = Header} (checked o (record { variables = vs; body = us })) (λ g. f (g .variables) (g .body))
+unfolding andThen
+left-after Read vs us f = refl
+left-after (Refused r) vs us f = refl
+
+pub stays-stopped : {A B : Type 0} (c : Checked A) (f : A → Checked B) (l : Limit) (p : ℕ) → c ≡ stopped l p → andThen c f ≡ stopped l p
+unfolding andThen
+stays-stopped c f l p e = rw e
+
+pub then-same : {A B : Type 0} (c d : Checked A) (f : A → Checked B) → c ≡ d → andThen c f ≡ andThen d f
+then-same c d f e = rw e
+
+-- what was read goes on, and what was refused is at its end
+pub goes-on : {A B : Type 0} (o : Outcome) (a : A) (f : A → Checked B) → o ≡ Read → andThen (checked o a) f ≡ f a
+unfolding andThen
+goes-on o a f e = rw e
+
+pub ends-there : {A : Type 0} (o : Outcome) (a : A) (f : A → Checked A) (r : Refusal) → o ≡ Refused r → andThen (checked o a) f ≡ checked o a
+unfolding andThen
+ends-there o a f r e = rw e
+
+-- an answer in code that breaks a limit
+pub stops : {A : Type 0} (o : Outcome) (a : A) (l : Limit) (p : ℕ) → o ≡ Refused (record { limit = l; place = record { 0 = p } }) → checked o a ≡ stopped l p
+stops o a l p e = rw e

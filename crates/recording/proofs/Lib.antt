@@ -1,0 +1,4 @@
+pub mod BodyLaws
+pub mod CheckLaws
+pub mod HeaderLaws
+pub mod VariableLaws

@@ -1,0 +1,32 @@
+-- `skips` meets its contract: six comparisons. Assumes nothing.
+use mathlib.Core.Path.{refl}
+use borrow.Author.Needs.{needs}
+use Rattle.recording.proofs.header.skips.Statement.{statement}
+use Rattle.recording.proofs.header.skips.Tie as tie
+
+returns : tie.Need-returns
+returns c =
+    let a = c .before .before in
+    let b = a .before .before in
+    let d = b .before .before in
+    let e = d .before .before in
+    let f = e .before .before in
+    rw (c .same-bytes6 .ensures, a .same-bytes5 .ensures, b .same-bytes4 .ensures, d .same-bytes3 .ensures, e .same-bytes2 .ensures, f .same-bytes .ensures) refl
+
+pub skips-spec : {M : Type 1} → statement M
+skips-spec =
+    tie.close
+    (tie.spec
+    (λ c. search needs)
+    (λ c κs. search needs)
+    (λ c. search needs)
+    (λ c κs. search needs)
+    (λ c. search needs)
+    (λ c κs. search needs)
+    (λ c. search needs)
+    (λ c κs. search needs)
+    (λ c. search needs)
+    (λ c κs. search needs)
+    (λ c. search needs)
+    (λ c κs. search needs)
+    returns)

@@ -1,0 +1,23 @@
+-- What a check comes to: a value, or the limit that is broken first and the offset that document 01 gives as its place. Assumes nothing.
+use mathlib.Core.Bool.{Bool, true, false}
+use Prim.Native.Nat.{ℕ}
+use Rattle.limit.specs.declared.Limit.{Limit}
+use Rattle.table.specs.declared.Outcome.{Outcome}
+use Rattle.table.specs.declared.Outcome.the-variants.{Read, Refused}
+
+pub data Checked (A : Type 0) : Type 0 where
+  passed : A → Checked A
+  stopped : Limit → (place : ℕ) → Checked A
+
+abbrev pub refuseIf : {A : Type 0} → Bool → Limit → (place : ℕ) → Checked A → Checked A
+refuseIf true l p c = stopped l p
+refuseIf false l p c = c
+
+unfoldable pub andThen : {A B : Type 0} → Checked A → (A → Checked B) → Checked B
+andThen (passed a) f = f a
+andThen (stopped l p) f = stopped l p
+
+-- what an answer in code stands for: its outcome, with the value beside it
+abbrev pub checked : {A : Type 0} → Outcome → A → Checked A
+checked Read a = passed a
+checked (Refused r) a = stopped (r .limit) (r .place .0)

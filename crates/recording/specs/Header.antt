@@ -1,0 +1,141 @@
+-- The header: document 01, "Recording" and the rows 30 to 37 of "Where each refusal is checked". r is the recording, n the table's clock
+-- count, and named gives the number of the clock with a name. Assumes nothing.
+use mathlib.Core.Path.{_≡_}
+use mathlib.Core.Bool.{Bool, true, not, cond, _&&_, _||_}
+use mathlib.Core.List.{List, [], _∷_, _++_}
+use Prim.Native.Nat.{ℕ, _<_, _≤_}
+use Prim.Native.String.{String}
+use lib.Dec.{leb, ltb}
+use lib.ListN.{length}
+use Rattle.limit.specs.declared.Limit.the-variants.{RecordingLength, RecordingByte, HeaderCommand, VariableShape, DeclaredTwice, VariableCount, ClockUndeclared, HeaderCutOff}
+use Rattle.text.specs.Ascii.{ascii}
+use Rattle.text.specs.Bytes.{inClass, passes, sameBytes}
+use Rattle.text.specs.Split.{bytesOf, wordsAt, runEnd, NextWord}
+use Rattle.text.specs.declared.Class.the-variants.{Parting, Recorded}
+use Rattle.text.specs.declared.Span.{Span}
+use Rattle.table.specs.declared.Outcome.the-variants.{Read}
+use Rattle.recording.specs.Checks.{Checked, passed, stopped, refuseIf, andThen, checked}
+use Rattle.recording.specs.Variables.{Variable, lookUp, isDeclared, clockAgain, allDeclared, declared}
+use Rattle.recording.specs.declared.Command.{Command}
+use Rattle.recording.specs.declared.Command.the-variants.{Skipped, Declaration, Definitions, Unknown}
+use Rattle.recording.specs.declared.Declared.{Declared}
+use Rattle.recording.specs.declared.HeaderRead.{HeaderRead}
+use Rattle.recording.specs.declared.Words.{Words}
+
+-- words are parted by bytes 9, 10, 13, 32
+abbrev pub words : List ℕ → ℕ → List Span
+words r at = wordsAt (inClass Parting) r at
+
+abbrev pub says : List ℕ → String → Bool
+says w s = sameBytes w (ascii s)
+
+-- the commands that are skipped up to their `$end`
+abbrev pub skips : List ℕ → Bool
+skips w = says w "$date" || says w "$version" || says w "$comment" || says w "$timescale" || says w "$scope" || says w "$upscope"
+
+abbrev pub commandOf : List ℕ → Command
+commandOf w = cond (skips w) Skipped (cond (says w "$var") Declaration (cond (says w "$enddefinitions") Definitions Unknown))
+
+-- `$var event 1 id name $end`, id 1 to 4 bytes
+abbrev pub shaped : List ℕ → (kind width id last : Span) → Bool
+shaped r kind width id last =
+    says (bytesOf r kind) "event" && says (bytesOf r width) "1" && leb (length (bytesOf r id)) 4 && says (bytesOf r last) "$end"
+
+-- a declaration by the command at an offset: 33 another shape; 34 id declared before, or a table clock declared again; 37 a 129th variable
+unfoldable pub declare : (named : List ℕ → ℕ) → List ℕ → (at : ℕ) → List Variable → (kind width id name last : Span) → Checked (List Variable)
+declare named r at vs kind width id name last =
+    refuseIf (not (shaped r kind width id last)) VariableShape at
+    (refuseIf (isDeclared (lookUp vs (bytesOf r id)) || clockAgain vs (named (bytesOf r name))) DeclaredTwice at
+    (refuseIf (leb 128 (length vs)) VariableCount at
+    (passed (vs ++ record { id = bytesOf r id; clock = named (bytesOf r name) } ∷ []))))
+
+-- a header that was read: its variables, and the words of the body
+pub record Header : Type 0 where
+  pub variables : List Variable
+  pub body : List Span
+
+-- the recording ends before the header does
+abbrev pub cutOff : List ℕ → Checked Header
+cutOff r = stopped HeaderCutOff (length r)
+
+-- behind `$enddefinitions` at an offset: 36; 32 another word than `$end`; 35 a table clock undeclared
+unfoldable pub close : (n : ℕ) → List ℕ → (at : ℕ) → List Variable → List Span → Checked Header
+close n r at vs [] = cutOff r
+close n r at vs (w ∷ ws) =
+    refuseIf (not (says (bytesOf r w) "$end")) HeaderCommand at
+    (refuseIf (not (allDeclared vs n)) ClockUndeclared at
+    (passed (record { variables = vs; body = ws })))
+
+abbrev pub byCommand : {A : Type 0} → Command → (skipped declaration definitions unknown : A) → A
+byCommand Skipped s d e u = s
+byCommand Declaration s d e u = d
+byCommand Definitions s d e u = e
+byCommand Unknown s d e u = u
+
+-- command by command: 36; 32 a word that opens no command
+unfoldable mutual
+  pub header : (named : List ℕ → ℕ) (n : ℕ) → List ℕ → List Variable → List Span → Checked Header
+  header named n r vs [] = cutOff r
+  header named n r vs (w ∷ ws) =
+      byCommand (commandOf (bytesOf r w))
+      (skipping named n r vs ws)
+      (declaring named n r vs (w .start) ws)
+      (close n r (w .start) vs ws)
+      (stopped HeaderCommand (w .start))
+
+  -- a skipped command ends at the first `$end`
+  pub skipping : (named : List ℕ → ℕ) (n : ℕ) → List ℕ → List Variable → List Span → Checked Header
+  skipping named n r vs [] = cutOff r
+  skipping named n r vs (w ∷ ws) = cond (says (bytesOf r w) "$end") (header named n r vs ws) (skipping named n r vs ws)
+
+  -- a command whose words run out has 36 and no other refusal
+  pub declaring : (named : List ℕ → ℕ) (n : ℕ) → List ℕ → List Variable → (at : ℕ) → List Span → Checked Header
+  declaring named n r vs at [] = cutOff r
+  declaring named n r vs at (kind ∷ []) = cutOff r
+  declaring named n r vs at (kind ∷ width ∷ []) = cutOff r
+  declaring named n r vs at (kind ∷ width ∷ id ∷ []) = cutOff r
+  declaring named n r vs at (kind ∷ width ∷ id ∷ name ∷ []) = cutOff r
+  declaring named n r vs at (kind ∷ width ∷ id ∷ name ∷ last ∷ ws) =
+      andThen (declare named r at vs kind width id name last) (λ us. header named n r us ws)
+
+-- 30 over 65,536 bytes; 31 byte that is neither a parting byte nor 33 to 126; then the header
+abbrev pub firstOther : List ℕ → ℕ
+firstOther r = runEnd (passes Recorded true) 0 r
+
+unfoldable pub opened : (named : List ℕ → ℕ) (n : ℕ) → List ℕ → Checked Header
+opened named n r =
+    refuseIf (ltb 65_536 (length r)) RecordingLength 0
+    (refuseIf (ltb (firstOther r) (length r)) RecordingByte (firstOther r)
+    (header named n r [] (words r 0)))
+
+-- ---- what answers in code stand for
+
+-- the words behind the first `$end`
+unfoldable pub afterEnd : List ℕ → List Span → List Span
+afterEnd r [] = []
+afterEnd r (w ∷ ws) = cond (says (bytesOf r w) "$end") ws (afterEnd r ws)
+
+-- an offset from which on these words are left, and which is further on than those before from
+pub record Resumes (r : List ℕ) (from : ℕ) (at : ℕ) : Type 0 where
+  pub left : words r at ≡ afterEnd r (words r from)
+  pub forward : (i : ℕ) → i < from → i < length r → i < at
+
+-- five words in a row, from an offset on
+pub record Five (r : List ℕ) (from : ℕ) (ws : Words) : Type 0 where
+  pub kind : NextWord (inClass Parting) r from (ws .kind)
+  pub width : NextWord (inClass Parting) r (ws .kind .end) (ws .width)
+  pub id : NextWord (inClass Parting) r (ws .width .end) (ws .id)
+  pub name : NextWord (inClass Parting) r (ws .id .end) (ws .name)
+  pub last : NextWord (inClass Parting) r (ws .name .end) (ws .last)
+
+abbrev pub declaredAs : Declared → Checked (List Variable)
+declaredAs d = checked (d .outcome) (declared (d .variables))
+
+abbrev pub headerAs : List ℕ → HeaderRead → Checked Header
+headerAs r h = checked (h .outcome) (record { variables = declared (h .variables); body = words r (h .body) })
+
+-- the header goes on from what reading a declaration left, which is further on
+pub record Declares (named : List ℕ → ℕ) (n : ℕ) (r : List ℕ) (vs : List Variable) (command : Span) (h : HeaderRead) : Type 0 where
+  pub says : declaring named n r vs (command .start) (words r (command .end)) ≡ andThen (headerAs r h) (λ g. header named n r (g .variables) (g .body))
+  pub few : h .variables .count ≤ 128
+  pub forward : h .outcome ≡ Read → command .end < h .body

@@ -1,0 +1,4 @@
+pub mod Body
+pub mod Checks
+pub mod Header
+pub mod Variables

@@ -1,0 +1,77 @@
+// The recording: its header into variables, and the words of its body as marks and changes, or the first refusal of 30 to 44:
+// document 01, "Recording".
+
+mod body;
+mod header;
+mod lookup;
+
+pub use body::change;
+pub use body::mark;
+pub use body::opens_mark;
+pub use body::unmarked;
+pub use header::read_header;
+use limit::Place;
+use table::Outcome;
+use text::Span;
+
+// The recorded time of a mark.
+pub struct Time(pub u64);
+
+// The variables declared so far, in order: the numbers that stand for their ids, and the numbers of their clocks, 32 where the
+// table has none of that name.
+pub struct Variables {
+    pub ids: [u64; 128],
+    pub clocks: [u8; 128],
+    pub count: usize,
+}
+
+// What the word at the front of a command opens: a command that is skipped, `$var`, `$enddefinitions`, or none.
+pub enum Command {
+    Skipped,
+    Declaration,
+    Definitions,
+    Unknown,
+}
+
+// The five words behind `$var`.
+pub struct Words {
+    pub kind: Span,
+    pub width: Span,
+    pub id: Span,
+    pub name: Span,
+    pub last: Span,
+}
+
+// The variables with one more, where it is not refused.
+pub struct Declared {
+    pub outcome: Outcome,
+    pub variables: Variables,
+}
+
+// What reading a header answers: its variables, and where the body begins.
+pub struct HeaderRead {
+    pub outcome: Outcome,
+    pub variables: Variables,
+    pub body: usize,
+}
+
+// What the first byte of a change says.
+pub enum Level {
+    Tick,
+    NoTick,
+    NoChange,
+}
+
+// The open step, once a mark has begun one: the offset of its mark, its time, and the clocks that tick in it.
+pub struct Marked {
+    pub begun: bool,
+    pub mark: Place,
+    pub time: Time,
+    pub ticks: u32,
+}
+
+// What a word of the body does to the open step.
+pub struct Turn {
+    pub outcome: Outcome,
+    pub marked: Marked,
+}

@@ -1,0 +1,130 @@
+// Variables: their ids as numbers, and the look-up of ids and clocks.
+use super::Variables;
+use table::Found;
+ghost use mathlib.Core.Path.{_≡_};
+ghost use mathlib.Core.List.{_∷_, [], _++_};
+ghost use Prim.Native.Nat.{_≤_, _<_};
+ghost use lib.ListN.{length, drop};
+ghost use Rattle.recording.specs.Variables as v;
+
+fn wide(x: u8) -> u64
+    ensures { λ r. ⌜ (r ≡ x) × (r < 256) ⌝ }
+{
+    x as u64
+}
+
+// The digit of the byte at an index, 0 past the end.
+fn digit_at(id: &[u8], i: usize) -> u64
+    ensures { λ r. ⌜ (r ≡ v.digitOf (drop i (now (id .entry)))) × (r ≤ 256) ⌝ }
+{
+    if id.len() <= i {
+        return 0;
+    }
+    wide(id[i]) + 1
+}
+
+// The number that stands for an id.
+pub fn code(id: &[u8]) -> u64
+    requires { ⌜ length (now id) ≤ 4 ⌝ }
+    ensures { λ r. ⌜ (r ≡ v.codeOf (now (id .entry))) × v.Bytes (now (id .entry)) ⌝ }
+{
+    let a = digit_at(id, 0);
+    let b = digit_at(id, 1);
+    let c = digit_at(id, 2);
+    let d = digit_at(id, 3);
+    a + 256 * (b + 256 * (c + 256 * d))
+}
+
+// The clock of the variable with an id, among the first count.
+pub fn find_id<'a>(ids: &'a [u64], clocks: &'a [u8], count: usize, id: &[u8]) -> Found
+    requires { ⌜ (count ≤ length (now ids)) × (count ≤ length (now clocks)) ⌝ }
+    ensures { λ r. ⌜ r ≡ v.lookUp (v.variablesOf count (now (ids .entry)) (now (clocks .entry))) (now (id .entry)) ⌝ }
+{
+    if 4 < id.len() {
+        return Found::Nothing;
+    }
+    let sought = code(id);
+    let mut i: usize = 0;
+    while i < count {
+        if ids[i] == sought {
+            return Found::At(clocks[i]);
+        }
+        i += 1;
+    }
+    Found::Nothing
+}
+
+// Whether an id was declared.
+pub fn is_declared(variables: Variables, id: &[u8]) -> bool
+    requires { ⌜ variables .count ≤ 128 ⌝ }
+    ensures { λ r. ⌜ r ≡ v.isDeclared (v.lookUp (v.declared variables) (now (id .entry))) ⌝ }
+{
+    let found = find_id(&variables.ids, &variables.clocks, variables.count, id);
+    match found {
+        Found::At(_) => true,
+        Found::Nothing => false,
+    }
+}
+
+// Whether a clock was declared.
+fn has_clock(variables: Variables, clock: u8) -> bool
+    requires { ⌜ variables .count ≤ 128 ⌝ }
+    ensures { λ r. ⌜ r ≡ v.hasClock (v.declared variables) clock ⌝ }
+{
+    let count = variables.count;
+    let mut i: usize = 0;
+    while i < count {
+        if variables.clocks[i] == clock {
+            return true;
+        }
+        i += 1;
+    }
+    false
+}
+
+// Whether a clock of the table was declared.
+pub fn clock_again(variables: Variables, clock: u8) -> bool
+    requires { ⌜ variables .count ≤ 128 ⌝ }
+    ensures { λ r. ⌜ r ≡ v.clockAgain (v.declared variables) clock ⌝ }
+{
+    (clock != 32) & has_clock(variables, clock)
+}
+
+// Whether all clocks below a number were declared.
+pub fn all_declared(variables: Variables, clocks: u8) -> bool
+    requires { ⌜ variables .count ≤ 128 ⌝ }
+    ensures { λ r. ⌜ r ≡ v.allDeclared (v.declared variables) clocks ⌝ }
+{
+    let mut k = clocks;
+    while 0 < k {
+        k -= 1;
+        if !has_clock(variables, k) {
+            return false;
+        }
+    }
+    true
+}
+
+// No variables.
+pub fn none() -> Variables
+    ensures { λ r. ⌜ (r .count ≡ 0) × (v.declared r ≡ []) ⌝ }
+{
+    Variables {
+        ids: [0; 128],
+        clocks: [0; 128],
+        count: 0,
+    }
+}
+
+// One variable more, with the id that a number stands for.
+pub fn with_variable(variables: Variables, id: u64, clock: u8) -> Variables
+    requires { ⌜ variables .count < 128 ⌝ }
+    ensures { λ r. ⌜ (v.declared r ≡ v.declared variables ++ record { id = v.bytesOfCode 5 id; clock = clock } ∷ []) × (r .count ≤ 128) ⌝ }
+{
+    let n = variables.count;
+    let mut more = variables;
+    more.ids[n] = id;
+    more.clocks[n] = clock;
+    more.count = n + 1;
+    more
+}
