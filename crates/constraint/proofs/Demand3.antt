@@ -29,7 +29,7 @@ use Rattle.constraint.proofs.OneRecord.{words-apart, words-alike}
 
 -- ---- what it means that a limit is broken nowhere
 
-nowhere : (t : Bool) (x : Broken) (i : ℕ) → cond t x (at i) ≡ Nowhere → (t ≡ true) × (x ≡ Nowhere)
+pub nowhere : (t : Bool) (x : Broken) (i : ℕ) → cond t x (at i) ≡ Nowhere → (t ≡ true) × (x ≡ Nowhere)
 nowhere true x i e = (refl, e)
 nowhere false x i e = let z : _≡_ {A = ℕ} 0 1 = cc in absurd (omega arith)
 

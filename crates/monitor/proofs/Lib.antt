@@ -1,0 +1,5 @@
+pub mod Demands
+pub mod JudgingLaws
+pub mod RunLaws
+pub mod SameExercise
+pub mod StepLaws

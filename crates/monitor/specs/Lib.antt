@@ -1,0 +1,4 @@
+pub mod Demands
+pub mod Fold
+pub mod Run
+pub mod Step
