@@ -1,7 +1,7 @@
 // Reads each table text that an argument names, and prints what the reader of `table` answers. What document 01 says of each
 // stands in `stdout`.
 mod file;
-mod print;
+mod form;
 mod show;
 
 // Reads the file of each argument, in order.

@@ -1,8 +1,9 @@
 // What the reader of a table answers, as lines: the refusal, or the names of the clocks and the constraints.
-use super::print::say;
-use super::print::say_field;
-use super::print::say_kind;
-use super::print::say_word;
+use super::form::say_kind;
+use console::say;
+use console::say_field;
+use console::say_refusal;
+use console::say_word;
 use constraint::Constraint;
 use limit::Refusal;
 use table::Names;
@@ -10,12 +11,9 @@ use table::Outcome;
 use table::Table;
 use text::Span;
 
-// The limit's number and the place of a refusal.
+// The line of a refusal.
 fn refused(refusal: Refusal) {
-    let limit = refusal.limit;
-    let place = refusal.place;
-    say_field(b"refused ", limit::number(limit) as u64);
-    say_field(b" ", place.0 as u64);
+    say_refusal(refusal);
     say(b"\n");
 }
 

@@ -1,33 +1,8 @@
-// What the cases print: bytes, numbers, words and the forms of constraints.
+// The words of the forms.
+use console::say;
 use constraint::Definition;
 use constraint::Kind;
 use constraint::Relation;
-use constraint::Word;
-use libc::STDOUT_FILENO;
-
-// The bytes of a text.
-pub fn say(text: &[u8]) {
-    io::write_all(STDOUT_FILENO, text);
-}
-
-// A number in decimal digits.
-pub fn say_number(n: u64) {
-    io::print_decimal(STDOUT_FILENO, n);
-}
-
-// A label, and a number behind it.
-pub fn say_field(label: &[u8], n: u64) {
-    say(label);
-    say_number(n);
-}
-
-// A word, with a minus sign where it is negative.
-pub fn say_word(w: Word) {
-    if constraint::below(w) {
-        say(b"-");
-    }
-    say_number(constraint::magnitude(w));
-}
 
 // The words of a relation's form.
 fn say_relation(relation: Relation) {

@@ -1,0 +1,36 @@
+// Bytes, numbers, words and refusals.
+use constraint::Word;
+use libc::STDOUT_FILENO;
+use limit::Refusal;
+
+// The bytes of a text.
+pub fn say(text: &[u8]) {
+    io::write_all(STDOUT_FILENO, text);
+}
+
+// A number in decimal digits.
+pub fn say_number(n: u64) {
+    io::print_decimal(STDOUT_FILENO, n);
+}
+
+// A label, and a number behind it.
+pub fn say_field(label: &[u8], n: u64) {
+    say(label);
+    say_number(n);
+}
+
+// A word, with a minus sign where it is negative.
+pub fn say_word(w: Word) {
+    if constraint::below(w) {
+        say(b"-");
+    }
+    say_number(constraint::magnitude(w));
+}
+
+// The limit's number and the place of a refusal.
+pub fn say_refusal(refusal: Refusal) {
+    let limit = refusal.limit;
+    let place = refusal.place;
+    say_field(b"refused ", limit::number(limit) as u64);
+    say_field(b" ", place.0 as u64);
+}
