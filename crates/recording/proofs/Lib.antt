@@ -1,4 +1,5 @@
 pub mod BodyLaws
 pub mod CheckLaws
 pub mod HeaderLaws
+pub mod StepTicks
 pub mod VariableLaws
