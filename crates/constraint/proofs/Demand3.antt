@@ -33,7 +33,7 @@ pub nowhere : (t : Bool) (x : Broken) (i : ℕ) → cond t x (at i) ≡ Nowhere 
 nowhere true x i e = (refl, e)
 nowhere false x i e = let z : _≡_ {A = ℕ} 0 1 = cc in absurd (omega arith)
 
-clocks-pass : (clocks : ℕ) (rs : List Constraint) → brokenRecord clocks rs ≡ Nowhere → (clocks ≤ 32) × (firstUnfit clocks none 1 rs ≡ Nowhere)
+pub clocks-pass : (clocks : ℕ) (rs : List Constraint) → brokenRecord clocks rs ≡ Nowhere → (clocks ≤ 32) × (firstUnfit clocks none 1 rs ≡ Nowhere)
 clocks-pass clocks rs e = let p = nowhere (leb clocks 32) _ 0 e in (leb-true clocks 32 (p .0), p .1)
 
 -- of the first record, and of those after it
@@ -51,7 +51,7 @@ module _ (clocks : ℕ) (earlier : Ticks) (i : ℕ) (r : Constraint) (rs : List 
   later-pass = nowhere (recordFits clocks earlier i r) _ i e .1
 
 -- at most 64 records pass
-records-pass : (clocks : ℕ) (earlier : Ticks) (i : ℕ) (rs : List Constraint) → i ≤ 65 → firstUnfit clocks earlier i rs ≡ Nowhere → i + length rs ≤ 65
+pub records-pass : (clocks : ℕ) (earlier : Ticks) (i : ℕ) (rs : List Constraint) → i ≤ 65 → firstUnfit clocks earlier i rs ≡ Nowhere → i + length rs ≤ 65
 records-pass clocks earlier i [] h e = omega arith
 records-pass clocks earlier i (r ∷ rs) h e =
     let p = place-passes clocks earlier i r rs e in

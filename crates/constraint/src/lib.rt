@@ -13,6 +13,7 @@ pub use place::defines_again;
 pub use place::empty;
 pub use place::record_fits;
 pub use place::same_place;
+pub use place::same_words;
 pub use place::start_words;
 pub use place::with_defined;
 pub use rule::below;

@@ -1,24 +1,20 @@
--- Demands 1 and 2 of a whole run, from how its steps split into the accepted ones and what ends them; and two recordings of one exercise, each
--- of which is judged as its tick sets alone are. Assumes nothing.
+-- The three demands: 2 from how the steps of a recording split into the accepted ones and what ends them; 1 from that split, and from the order
+-- of the checks of the calls on records; 3 as `constraint` has it. Assumes nothing.
 use mathlib.Core.Path.{_≡_, refl, sym, ap, _∙_}
 use mathlib.Core.List.{List, [], _∷_, _++_, append-nil}
 use Prim.Native.Nat.{ℕ}
 use lib.ListN.{length}
+use Rattle.constraint.proofs.Demand3 as place
 use Rattle.table.specs.Reader as table
-use Rattle.table.specs.declared.Table.{Table}
 use Rattle.table.proofs.Passes.{every-table-passes}
-use Rattle.recording.specs.Body.{Ending, ended, refusedAt, Reading}
+use Rattle.recording.specs.Body.{Ending, ended, refusedAt}
 use Rattle.recording.specs.declared.Marked.{Marked}
-use Rattle.monitor.specs.Demands.{Accepted, Ends, at-end, fails, gap, Demand2, Refuses, by-table, by-reading, by-gap, Demand1, TwoRecordings}
-use Rattle.monitor.specs.Run.{Said, accepted, violated, refused, endingSaid, ran, readingOf, runTable, withTable, runOf, zeros, recordsOf, startOf}
+use Rattle.monitor.specs.Demands.{Demand1, Demand2, Demand3}
+use Rattle.monitor.specs.Judgement.{Accepted, Ends, at-end, fails, gap}
+use Rattle.monitor.specs.Refusals.{RunRefuses, by-table, by-reading, by-gap}
+use Rattle.monitor.specs.Run.{Said, accepted, violated, refused, endingSaid, ran, runTable, withTable, runOf, zeros, tableOf, readingBy}
 use Rattle.monitor.proofs.JudgingLaws.{after, Split, split, judged-split}
-use Rattle.monitor.proofs.SameExercise.{same-exercise}
-
-abbrev tableOf : List ℕ → Table
-tableOf t = table.readTable t .table
-
-abbrev readingBy : (t r : List ℕ) → Reading
-readingBy t r = readingOf t (tableOf t) r
+use Rattle.monitor.proofs.RefusalLaws.{step-refused, step-given-back, same-place-refused}
 
 -- ---- the run of a table that is refused, and of one that is read
 
@@ -27,7 +23,7 @@ module _ (t r : List ℕ) where
   unfolding withTable
   run-refused n p e = rw e
 
-  run-read : table.readTable t .said ≡ table.read → runOf t r ≡ runTable t (tableOf t) r
+  pub run-read : table.readTable t .said ≡ table.read → runOf t r ≡ runTable t (tableOf t) r
   unfolding withTable
   run-read e = rw e
 
@@ -44,7 +40,7 @@ demand-2 t r e =
 
 -- ---- demand 1
 
-when-refused : (t r : List ℕ) {n p : ℕ} → Refuses t r n p → runOf t r .said ≡ refused n p
+when-refused : (t r : List ℕ) {n p : ℕ} → RunRefuses t r n p → runOf t r .said ≡ refused n p
 when-refused t r {n} {p} (by-table e) = rw (run-refused t r n p e)
 when-refused t r (by-reading e q h) = rw (run-split t r e (record { accepted = readingBy t r .steps; left = []; said = endingSaid (readingBy t r .ending); place = sym (append-nil _); held = h; ends = at-end })) (ap endingSaid q)
 when-refused t r (by-gap before later s c e q h hold f) = rw (run-split t r e (record { accepted = before; left = s ∷ later; said = _; place = q; held = h; ends = gap hold f }))
@@ -53,7 +49,7 @@ when-refused t r (by-gap before later s c e q h hold f) = rw (run-split t r e (r
 abbrev Refusing : (t r : List ℕ) → Said → Type 0
 Refusing t r accepted = Unit {0}
 Refusing t r (violated l p) = Unit {0}
-Refusing t r (refused n p) = Refuses t r n p
+Refusing t r (refused n p) = RunRefuses t r n p
 
 module _ (t r : List ℕ) where
   module _ (e : table.readTable t .said ≡ table.read) where
@@ -73,11 +69,16 @@ module _ (t r : List ℕ) where
       go table.read e = let j = demand-2 t r e in end-refuses e (j .steps) (j .held) (j .ends)
       go (table.refused n p) e = rw (run-refused t r n p e) (by-table e)
 
-pub demand-1 : (t r : List ℕ) (n p : ℕ) → Demand1 t r n p
-demand-1 t r n p = record { when = when-refused t r; only = λ e. rw e at (run-refuses t r); zeros = run-refused t r n p }
+pub demand-1 : Demand1
+demand-1 = record {
+  run-refused = λ t r n p. (λ e. rw e at (run-refuses t r), when-refused t r);
+  table-refused = run-refused;
+  step-refused = step-refused;
+  step-given-back = step-given-back;
+  same-place-refused = same-place-refused;
+}
 
--- ---- two recordings
+-- ---- demand 3
 
-pub two-recordings : TwoRecordings
-two-recordings t r q e er eq same =
-    rw (run-read t r e, run-read t q e, er, eq) (same-exercise (recordsOf (tableOf t)) (tableOf t .count) (startOf (tableOf t)) _ _ (every-table-passes t e .words) same)
+pub demand-3 : Demand3
+demand-3 = place.demand-3

@@ -21,7 +21,7 @@ use Rattle.table.specs.Reader as table
 use Rattle.table.specs.declared.Table.{Table}
 use Rattle.recording.specs.Body.{Ending}
 use Rattle.recording.specs.declared.Marked.{Marked}
-use Rattle.monitor.specs.Demands.{movedBy, wordAfter, HoldsAt, StaysAt, Every, none, more, First, Accepted, Ends, at-end, fails, gap}
+use Rattle.monitor.specs.Judgement.{movedBy, wordAfter, HoldsAt, StaysAt, Every, none, more, First, Accepted, Ends, at-end, fails, gap}
 use Rattle.monitor.specs.Run.{Said, violated, endingSaid, lineOf, afterStep, judgeAll, recordsOf, startOf}
 use Rattle.monitor.specs.Step.{firstFailing, moved, judged}
 use Rattle.monitor.specs.declared.Outcome.the-variants.{Held, Failed, Full}
@@ -213,3 +213,25 @@ judged-split b p e ss x =
     ap (λ l. judgeAll (recordsOf b) 0 (startOf b) l e) (x .place)
     ∙ through 64 (recordsOf b) (b .records) room (p .unused) e [] (x .accepted) (x .left) (x .held)
     ∙ stops 64 (recordsOf b) (b .records) room (p .unused) e (x .ends) (length (x .accepted))
+
+-- the words after accepted steps are in range: the start words, and those after a last step
+abbrev EmptyOrLast : List Marked → Type 0
+EmptyOrLast ss = (ss ≡ []) ⊎ ((before : List Marked) × (s : Marked) × (ss ≡ before ++ s ∷ []))
+
+empty-or-last : (ss : List Marked) → EmptyOrLast ss
+empty-or-last [] = inl refl
+empty-or-last (x ∷ ss) = go (empty-or-last ss)
+  where
+    go : EmptyOrLast ss → EmptyOrLast (x ∷ ss)
+    go (inl e) = inr ([], x, ap (λ l. x ∷ l) e)
+    go (inr (before, s, e)) = inr (x ∷ before, s, ap (λ l. x ∷ l) e)
+
+pub accepted-in-range : (b : Table) → table.Passes b → (ss : List Marked) → Accepted (b .records) ss → brokenWord (recordsOf b) (map (wordAfter ss) (b .records)) ≡ Nowhere
+accepted-in-range b p ss h = go (empty-or-last ss)
+  where
+    room : length (recordsOf b) ≤ 64
+    room = omega (arith, length-slots (b .count) (b .records), p .constraints)
+
+    go : EmptyOrLast ss → brokenWord (recordsOf b) (map (wordAfter ss) (b .records)) ≡ Nowhere
+    go (inl e) = rw e (p .words)
+    go (inr (before, s, e)) = rw e (out-first 64 (recordsOf b) (b .records) room (p .unused) before s ∙ every-passes _ 1 (h before [] s e .1))

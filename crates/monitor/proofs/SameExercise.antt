@@ -15,7 +15,7 @@ use Rattle.constraint.specs.declared.Constraint.{Constraint}
 use Rattle.constraint.proofs.TickSets.{bits-zero}
 use Rattle.recording.specs.Body.{Ending, ended, Reading}
 use Rattle.recording.specs.declared.Marked.{Marked}
-use Rattle.monitor.specs.Demands.{nonempty, bare, SameExercise}
+use Rattle.monitor.specs.Judgement.{nonempty, bare, SameExercise}
 use Rattle.monitor.specs.Run.{Judging, afterStep, judgeAll, ran}
 use Rattle.monitor.specs.Step.{judged}
 use Rattle.monitor.specs.declared.Outcome.{Outcome}

@@ -1,129 +1,44 @@
--- What is demanded of a whole run, over the definitions alone. The proofs stand elsewhere (proofs/Demands). Assumes nothing.
+-- The three demands on the checker, each in the words of the person that it is built for, and as a claim over the definitions alone. The proofs
+-- stand in proofs/Demands. Assumes nothing.
 use mathlib.Core.Path.{_≡_}
-use mathlib.Core.Bool.{true, cond}
-use mathlib.Core.List.{List, [], _∷_, _++_, map}
-use Prim.Native.Nat.{ℕ, suc}
-use lib.Dec.{eqb}
-use lib.ListN.{length, take}
-use Rattle.limit.specs.Limit.{numberOf}
-use Rattle.limit.specs.declared.Limit.{Limit}
-use Rattle.limit.specs.declared.Limit.the-variants.{Gap}
-use Rattle.constraint.specs.Meaning.{holds, nextWord, start, inRange}
-use Rattle.constraint.specs.Ticks.{bits}
+use mathlib.Core.Logic.{_↔_}
+use mathlib.Core.List.{List}
+use Prim.Native.Nat.{ℕ}
+use lib.ListN.{length}
+use Rattle.constraint.specs.SamePlace as place
+use Rattle.constraint.specs.declared.Configuration.{Configuration}
 use Rattle.constraint.specs.declared.Constraint.{Constraint}
 use Rattle.constraint.specs.declared.Word.{Word}
 use Rattle.table.specs.Reader as table
-use Rattle.table.specs.declared.Table.{Table}
-use Rattle.recording.specs.Body.{Ending, ended, refusedAt, Reading}
-use Rattle.recording.specs.declared.Marked.{Marked}
-use Rattle.monitor.specs.Run.{Said, accepted, violated, refused, Told, endingSaid, readingOf, runOf, zeros}
+use Rattle.monitor.specs.Judgement.{Judges}
+use Rattle.monitor.specs.Refusals.{RunRefuses, StepRefuses, SamePlaceRefuses}
+use Rattle.monitor.specs.Run as run
+use Rattle.monitor.specs.Single as single
 
--- ---- one record through a list of steps
+-- 1. Exactly when a table, a recording as far as it is read, a configuration or a tick set breaks one of document 01's limits, the call ends
+-- with that limit's number and place. A whole run then gives the configuration after its last accepted step (demand 2 says which that is), or
+-- all zeros where the table was refused; a single step gives back the one it was handed.
+pub record Demand1 : Type 0 where
+  pub run-refused : (t r : List ℕ) (n p : ℕ) → run.runOf t r .said ≡ run.refused n p ↔ RunRefuses t r n p
+  pub table-refused : (t r : List ℕ) (n p : ℕ) → table.readTable t .said ≡ table.refused n p
+      → run.runOf t r ≡ record { said = run.refused n p; steps = 0; constraints = 0; configuration = run.zeros }
+  pub step-refused : (clocks : ℕ) (rs : List Constraint) (c : Configuration) (f n p : ℕ)
+      → single.stepOf clocks rs c f .said ≡ single.refused n p ↔ StepRefuses clocks rs (c .words) f n p
+  pub step-given-back : (clocks : ℕ) (rs : List Constraint) (c : Configuration) (f n p : ℕ)
+      → single.stepOf clocks rs c f .said ≡ single.refused n p → single.stepOf clocks rs c f .configuration ≡ c
+  pub same-place-refused : (clocks : ℕ) (rs : List Constraint) (ws vs : List Word) (n p : ℕ)
+      → place.samePlaceOf clocks rs ws vs ≡ place.refused n p ↔ SamePlaceRefuses clocks rs ws vs n p
 
--- the record's start word, moved by the rules through the steps, one after the other
-abbrev pub movedBy : Constraint → Word → List Marked → Word
-movedBy r w [] = w
-movedBy r w (s ∷ ss) = movedBy r (nextWord r w (bits (s .ticks))) ss
-
-abbrev pub wordAfter : List Marked → Constraint → Word
-wordAfter ss r = movedBy r (start r) ss
-
--- a step after others: the record holds, with its word from before the step; and its word after the step is in range
-abbrev pub HoldsAt : (before : List Marked) → Marked → Constraint → Type 0
-HoldsAt before s r = holds r (wordAfter before r) (bits (s .ticks)) ≡ true
-
-abbrev pub StaysAt : (before : List Marked) → Marked → Constraint → Type 0
-StaysAt before s r = inRange r (wordAfter (before ++ s ∷ []) r) ≡ true
-
-pub data Every {A : Type 0} (P : A → Type 0) : List A → Type 0 where
-  none : Every P []
-  more : {x : A} {xs : List A} → P x → Every P xs → Every P (x ∷ xs)
-
--- the first of a list that has no P, all before it having P
-pub record First {A : Type 0} (P : A → Type 0) (xs : List A) (x : A) : Type 0 where
-  pub earlier : List A
-  pub later : List A
-  pub place : xs ≡ earlier ++ x ∷ later
-  pub before : Every P earlier
-  pub here : P x → ⊥
-
--- ---- demand 2
-
--- every record holds in every step of a list, and no word leaves its range
-abbrev pub Accepted : List Constraint → List Marked → Type 0
-Accepted rs ss = (before after : List Marked) (s : Marked) → ss ≡ before ++ s ∷ after → Every (HoldsAt before s) rs × Every (StaysAt before s) rs
-
--- what ends a run: the end of what was read; or the first step after the accepted ones, in which a record, the first that does in table
--- order, fails; or in which every record holds and a word leaves its range, 51
-pub data Ends (rs : List Constraint) (ending : Ending) (accepted : List Marked) : List Marked → Said → Type 0 where
-  at-end : Ends rs ending accepted [] (endingSaid ending)
-  fails : {s : Marked} {later : List Marked} {r : Constraint} → First (HoldsAt accepted s) rs r → Ends rs ending accepted (s ∷ later) (violated (r .line .0) (s .time .0))
-  gap : {s : Marked} {later : List Marked} {r : Constraint} → Every (HoldsAt accepted s) rs → First (StaysAt accepted s) rs r → Ends rs ending accepted (s ∷ later) (refused (numberOf Gap) (s .mark .0))
-
--- a recording is accepted up to the first step at which some constraint fails, the one highest in the table is named, and after the accepted
--- steps every word is what the rules give
-pub record Judges (table : Table) (g : Reading) (told : Told) : Type 0 where
-  pub accepted : List Marked
-  pub left : List Marked
-  pub steps : g .steps ≡ accepted ++ left
-  pub held : Accepted (table .records) accepted
-  pub ends : Ends (table .records) (g .ending) accepted left (told .said)
-  pub count : told .steps ≡ length accepted
-  pub constraints : told .constraints ≡ table .count
-  pub words : told .configuration .words ≡ map (wordAfter accepted) (table .records)
-
+-- 2. Unless a refusal comes first, a recording is accepted up to the first step at which some constraint fails under the operational rules as
+-- document 01 fixes them. The failing constraint highest in the table is named. After each accepted step every word of the configuration is
+-- what those rules give.
 abbrev pub Demand2 : Type 0
-Demand2 = (t r : List ℕ) → table.readTable t .said ≡ table.read → Judges (table.readTable t .table) (readingOf t (table.readTable t .table) r) (runOf t r)
+Demand2 = (t r : List ℕ) → table.readTable t .said ≡ table.read → Judges (run.tableOf t) (run.readingBy t r) (run.runOf t r)
 
--- ---- demand 1, of a run
-
--- a run is refused: the table is; or every step that was read is accepted, and reading is refused; or a word leaves its range
-pub data Refuses (t r : List ℕ) : (number place : ℕ) → Type 0 where
-  by-table : {n p : ℕ} → table.readTable t .said ≡ table.refused n p → Refuses t r n p
-  by-reading : {l : Limit} {p : ℕ}
-      → table.readTable t .said ≡ table.read
-      → readingOf t (table.readTable t .table) r .ending ≡ refusedAt l p
-      → Accepted (table.readTable t .table .records) (readingOf t (table.readTable t .table) r .steps)
-      → Refuses t r (numberOf l) p
-  by-gap : (before later : List Marked) (s : Marked) (c : Constraint)
-      → table.readTable t .said ≡ table.read
-      → readingOf t (table.readTable t .table) r .steps ≡ before ++ s ∷ later
-      → Accepted (table.readTable t .table .records) before
-      → Every (HoldsAt before s) (table.readTable t .table .records)
-      → First (StaysAt before s) (table.readTable t .table .records) c
-      → Refuses t r (numberOf Gap) (s .mark .0)
-
-pub record Demand1 (t r : List ℕ) (n p : ℕ) : Type 0 where
-  pub when : Refuses t r n p → runOf t r .said ≡ refused n p
-  pub only : runOf t r .said ≡ refused n p → Refuses t r n p
-  -- a refused table gives zeros
-  pub zeros : table.readTable t .said ≡ table.refused n p → runOf t r ≡ record { said = refused n p; steps = 0; constraints = 0; configuration = zeros }
-
--- ---- two recordings of one exercise
-
--- the tick sets of the steps in which something ticks
-abbrev pub nonempty : List Marked → List ℕ
-nonempty [] = []
-nonempty (s ∷ ss) = cond (eqb (s .ticks) 0) (nonempty ss) (s .ticks ∷ nonempty ss)
-
--- a verdict without its time or place
-abbrev pub bare : Said → Said
-bare accepted = accepted
-bare (violated l t) = violated l 0
-bare (refused n p) = refused n 0
-
--- both are accepted, or violated at the same line, or both stopped by 51; the tick sets up to and with the one that stops them are the same;
--- the words are equal
-pub record SameExercise (g h : Reading) (one other : Told) : Type 0 where
-  pub verdict : bare (one .said) ≡ bare (other .said)
-  pub tick-sets : nonempty (take (suc (one .steps)) (g .steps)) ≡ nonempty (take (suc (other .steps)) (h .steps))
-  pub configuration : one .configuration ≡ other .configuration
-
-abbrev pub TwoRecordings : Type 0
-TwoRecordings =
-    (t r q : List ℕ)
-    → table.readTable t .said ≡ table.read
-    → readingOf t (table.readTable t .table) r .ending ≡ ended
-    → readingOf t (table.readTable t .table) q .ending ≡ ended
-    → nonempty (readingOf t (table.readTable t .table) r .steps) ≡ nonempty (readingOf t (table.readTable t .table) q .steps)
-    → SameExercise (readingOf t (table.readTable t .table) r) (readingOf t (table.readTable t .table) q) (runOf t r) (runOf t q)
+-- 3. For every table and every two configurations of it, each with all words in range, whether or not a run can reach them, the same-place
+-- question says yes exactly when, for every constraint judged by itself and for every continuation, the constraint accepts it from both or from
+-- neither. Where it says no, some constraint accepts some continuation from one of the two and not from the other.
+abbrev pub Demand3 : Type 0
+Demand3 =
+    (clocks : ℕ) (rs : List Constraint) (ws vs : List Word) → length ws ≡ 64 → length vs ≡ 64
+    → place.Demand3 clocks rs ws vs (place.samePlaceOf clocks rs ws vs)

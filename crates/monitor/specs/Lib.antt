@@ -1,4 +1,10 @@
+pub mod Agreement
 pub mod Demands
 pub mod Fold
+pub mod Judgement
+pub mod Lent
+pub mod Refusals
 pub mod Run
+pub mod Single
 pub mod Step
+pub mod Survey

@@ -104,3 +104,10 @@ withTable t (table.refused n p) b r = record { said = refused n p; steps = 0; co
 
 abbrev pub runOf : (table recording : List ℕ) → Told
 runOf t r = withTable t (table.readTable t .said) (table.readTable t .table) r
+
+-- the table that a text is read as, and the recording as read with its names
+abbrev pub tableOf : List ℕ → Table
+tableOf t = table.readTable t .table
+
+abbrev pub readingBy : (table recording : List ℕ) → Reading
+readingBy t r = readingOf t (tableOf t) r

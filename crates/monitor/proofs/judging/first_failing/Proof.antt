@@ -10,8 +10,8 @@ use Rattle.constraint.proofs.Walk.{length-mapped}
 use Rattle.monitor.specs.Step.{firstFailing}
 use Rattle.monitor.proofs.StepLaws.{none-fails, fails, not-fails}
 use borrow.Author.Needs.{needs}
-use Rattle.monitor.proofs.step.first_failing.Statement.{statement}
-use Rattle.monitor.proofs.step.first_failing.Tie as tie
+use Rattle.monitor.proofs.judging.first_failing.Statement.{statement}
+use Rattle.monitor.proofs.judging.first_failing.Tie as tie
 
 abbrev Inv-loop : tie.InvT-loop
 Inv-loop count ticks records configuration i₀ i =

@@ -6,8 +6,8 @@ use Rattle.constraint.specs.Ticks.{bits}
 use Rattle.constraint.proofs.TickSets.{bits-zero}
 use Rattle.monitor.proofs.StepLaws.{judged-failed, judged-full, judged-held, judged-none}
 use borrow.Author.Needs.{needs}
-use Rattle.monitor.proofs.step.judge.Statement.{statement}
-use Rattle.monitor.proofs.step.judge.Tie as tie
+use Rattle.monitor.proofs.judging.judge.Statement.{statement}
+use Rattle.monitor.proofs.judging.judge.Tie as tie
 
 returns : tie.Need-returns
 returns c =

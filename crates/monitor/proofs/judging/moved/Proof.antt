@@ -10,8 +10,8 @@ use Rattle.constraint.proofs.Walk.{length-mapped}
 use Rattle.monitor.specs.Step as step
 use Rattle.monitor.proofs.StepLaws.{old-in-range, moved-turn}
 use borrow.Author.Needs.{needs}
-use Rattle.monitor.proofs.step.moved.Statement.{statement}
-use Rattle.monitor.proofs.step.moved.Tie as tie
+use Rattle.monitor.proofs.judging.moved.Statement.{statement}
+use Rattle.monitor.proofs.judging.moved.Tie as tie
 
 abbrev Inv-loop : tie.InvT-loop
 Inv-loop count ticks records words₀ i₀ words i = (i ≤ count) × (words ≡ step.moved (bits ticks) (slots i records) words₀)
