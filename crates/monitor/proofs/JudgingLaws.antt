@@ -1,5 +1,5 @@
--- A table's slots behind its records hold and keep a word in range, so a step's outcome is read off `Every` and `First` over all slots; and so
--- is a whole run: every list of steps splits into accepted ones and what ends them, and judging ends as it splits. Assumes nothing.
+-- A table's slots behind its records hold and have no million, so a step's outcome is read off `Every` and `First` over all slots; and so is a
+-- whole run: every list of steps splits into accepted ones and what ends them, and judging ends as it splits. Assumes nothing.
 use mathlib.Core.Path.{_≡_, refl, sym, ap, _∙_}
 use mathlib.Core.Logic.{_⊎_, inl, inr}
 use mathlib.Core.Bool.{Bool, true, false, cond, false≢true}
@@ -9,8 +9,8 @@ use native.Mathlib.Omega.{arith}
 use lib.ListN.{length, getD, length-append}
 use lib.Seq.{append-snoc, getD-append-seam}
 use Rattle.limit.specs.declared.Place.{Place}
-use Rattle.constraint.specs.Lists.{at, empty, slots, firstOut, brokenWord}
-use Rattle.constraint.specs.Meaning.{holds, nextWord, inRange}
+use Rattle.constraint.specs.Lists.{at, empty, slots, brokenWord}
+use Rattle.constraint.specs.Meaning.{holds, nextWord}
 use Rattle.constraint.specs.Ticks.{Ticks, bits}
 use Rattle.constraint.specs.declared.Broken.{Broken}
 use Rattle.constraint.specs.declared.Broken.the-variants.{Nowhere, At}
@@ -22,9 +22,11 @@ use Rattle.table.specs.declared.Table.{Table}
 use Rattle.recording.specs.Body.{Ending}
 use Rattle.recording.specs.declared.Marked.{Marked}
 use Rattle.monitor.specs.Judgement.{movedBy, wordAfter, HoldsAt, StaysAt, Every, none, more, First, Accepted, Ends, at-end, fails, gap}
+use Rattle.monitor.specs.Million.{inMillion, firstPast}
 use Rattle.monitor.specs.Run.{Said, violated, endingSaid, lineOf, afterStep, judgeAll, recordsOf, startOf}
 use Rattle.monitor.specs.Step.{firstFailing, moved, judged}
 use Rattle.monitor.specs.declared.Outcome.the-variants.{Held, Failed, Full}
+use Rattle.monitor.proofs.MillionLaws.{out-is-past}
 use Rattle.monitor.proofs.StepLaws.{judged-failed, judged-full, judged-held}
 
 -- ---- the first record that does not pass a test, the first of these having the place i
@@ -91,11 +93,11 @@ module _ (f : Constraint → Word) where
   failing-slot F i (suc n) [] h = failing-slot F (suc i) n [] (omega arith)
   failing-slot F i (suc n) (r ∷ rs) h = rw (failing-slot F (suc i) n rs (omega arith))
 
-  out-slot : (i n : ℕ) (rs : List Constraint) → length rs ≤ n → firstOut i rs (map f (slots n rs)) ≡ firstNot (λ r. inRange r (f r)) i (slots n rs)
-  out-slot i zero [] h = refl
-  out-slot i zero (r ∷ rs) h = absurd (omega arith)
-  out-slot i (suc n) [] h = rw (out-slot (suc i) n [] (omega arith))
-  out-slot i (suc n) (r ∷ rs) h = rw (out-slot (suc i) n rs (omega arith))
+  past-slot : (i n : ℕ) (rs : List Constraint) → length rs ≤ n → firstPast i rs (map f (slots n rs)) ≡ firstNot (λ r. inMillion r (f r)) i (slots n rs)
+  past-slot i zero [] h = refl
+  past-slot i zero (r ∷ rs) h = absurd (omega arith)
+  past-slot i (suc n) [] h = past-slot (suc i) n [] (omega arith)
+  past-slot i (suc n) (r ∷ rs) h = rw (past-slot (suc i) n rs (omega arith))
 
   moved-slots : (F : Ticks) (g : Constraint → Word) → ((r : Constraint) → g r ≡ nextWord r (f r) F) → (n : ℕ) (rs : List Constraint) → length rs ≤ n → map g (slots n rs) ≡ moved F rs (map f (slots n rs))
   moved-slots F g e zero [] h = refl
@@ -113,6 +115,11 @@ moved-more : (r : Constraint) (w : Word) (ss : List Marked) (s : Marked) → mov
 moved-more r w [] s = refl
 moved-more r w (q ∷ ss) s = moved-more r (nextWord r w (bits (q .ticks))) ss s
 
+-- accepted steps leave words in range, and judging goes on from there
+record Reached (rs all : List Constraint) (ss : List Marked) : Type 0 where
+  inside : brokenWord rs (after all ss .words) ≡ Nowhere
+  judges : (e : Ending) (left : List Marked) → judgeAll rs 0 (after all []) (ss ++ left) e ≡ judgeAll rs (length ss) (after all ss) left e
+
 -- all: every slot, those behind the records rs being empty
 module _ (n : ℕ) (rs all : List Constraint) (room : length rs ≤ n) (unused : all ≡ slots n rs) where
   module _ (ss : List Marked) (s : Marked) where
@@ -125,18 +132,29 @@ module _ (n : ℕ) (rs all : List Constraint) (room : length rs ≤ n) (unused :
     fails-first : firstFailing F 1 rs (after all ss .words) ≡ firstNot (λ r. holds r (wordAfter ss r) F) 1 all
     fails-first = rw unused (failing-slot (wordAfter ss) F 1 n rs room)
 
-    out-first : brokenWord rs (after all (ss ++ s ∷ []) .words) ≡ firstNot (λ r. inRange r (wordAfter (ss ++ s ∷ []) r)) 1 all
-    out-first = rw unused (out-slot (wordAfter (ss ++ s ∷ [])) 1 n rs room)
+    past-first : firstPast 1 rs (after all (ss ++ s ∷ []) .words) ≡ firstNot (λ r. inMillion r (wordAfter (ss ++ s ∷ []) r)) 1 all
+    past-first = rw unused (past-slot (wordAfter (ss ++ s ∷ [])) 1 n rs room)
 
     step-fails : {r : Constraint} (f : First (HoldsAt ss s) all r) → judged F rs (after all ss) ≡ record { outcome = Failed (placeOf f); configuration = after all ss }
     step-fails f = judged-failed _ rs (after all ss) (placeOf f) (fails-first ∙ first-found _ f)
 
-    module _ (hold : Every (HoldsAt ss s) all) where
-      step-full : {r : Constraint} (f : First (StaysAt ss s) all r) → judged F rs (after all ss) ≡ record { outcome = Full (placeOf f); configuration = after all ss }
-      step-full f = judged-full _ rs (after all ss) (after all (ss ++ s ∷ [])) all-moved (fails-first ∙ every-passes _ 1 hold) (placeOf f) (out-first ∙ first-found _ f)
+    -- from words in range, once every record held
+    module _ (inside : brokenWord rs (after all ss .words) ≡ Nowhere) (hold : Every (HoldsAt ss s) all) where
+      none-fails : firstFailing F 1 rs (after all ss .words) ≡ Nowhere
+      none-fails = fails-first ∙ every-passes _ 1 hold
 
-      step-held : Every (StaysAt ss s) all → judged F rs (after all ss) ≡ record { outcome = Held; configuration = after all (ss ++ s ∷ []) }
-      step-held stay = judged-held _ rs (after all ss) (after all (ss ++ s ∷ [])) all-moved (fails-first ∙ every-passes _ 1 hold) (out-first ∙ every-passes _ 1 stay)
+      out-first : brokenWord rs (after all (ss ++ s ∷ []) .words) ≡ firstNot (λ r. inMillion r (wordAfter (ss ++ s ∷ []) r)) 1 all
+      out-first = rw all-moved (out-is-past F 1 rs (after all ss .words) inside none-fails) ∙ past-first
+
+      step-full : {r : Constraint} (f : First (StaysAt ss s) all r) → judged F rs (after all ss) ≡ record { outcome = Full (placeOf f); configuration = after all ss }
+      step-full f = judged-full _ rs (after all ss) (after all (ss ++ s ∷ [])) all-moved none-fails (placeOf f) (out-first ∙ first-found _ f)
+
+      module _ (stay : Every (StaysAt ss s) all) where
+        still-inside : brokenWord rs (after all (ss ++ s ∷ []) .words) ≡ Nowhere
+        still-inside = out-first ∙ every-passes _ 1 stay
+
+        step-held : judged F rs (after all ss) ≡ record { outcome = Held; configuration = after all (ss ++ s ∷ []) }
+        step-held = judged-held _ rs (after all ss) (after all (ss ++ s ∷ [])) all-moved none-fails still-inside
 
   line-found : {P : Constraint → Type 0} {r : Constraint} (f : First P all r) → lineOf rs (placeOf f) ≡ r .line .0
   line-found f =
@@ -145,20 +163,27 @@ module _ (n : ℕ) (rs all : List Constraint) (room : length rs ≤ n) (unused :
       ap (λ (i : ℕ). getD rs i empty .line .0) (omega arith) ∙ ap (λ (c : Constraint). c .line .0) e
 
   -- judging, through accepted steps, and at what ends them
-  module _ (e : Ending) where
-    through : (ss qs left : List Marked) → Accepted all (ss ++ qs) → judgeAll rs (length ss) (after all ss) (qs ++ left) e ≡ judgeAll rs (length (ss ++ qs)) (after all (ss ++ qs)) left e
-    unfolding judgeAll afterStep
-    through ss [] left h = rw append-nil
-    through ss (s ∷ qs) left h =
-        let p = h ss qs s refl in
-        let l : suc (length ss) ≡ length (ss ++ s ∷ []) = omega (arith, length-append ss (s ∷ [])) in
-        rw (step-held ss s (p .0) (p .1), l, ← append-snoc ss s qs) (through (ss ++ s ∷ []) qs left (rw append-snoc h))
+  one-more : (ss : List Marked) (s : Marked) → Reached rs all ss → Every (HoldsAt ss s) all → Every (StaysAt ss s) all → Reached rs all (ss ++ s ∷ [])
+  unfolding judgeAll afterStep
+  one-more ss s a hold stay = record { inside = still-inside ss s (a .inside) hold stay; judges = onward }
+    where
+      onward : (e : Ending) (left : List Marked) → judgeAll rs 0 (after all []) ((ss ++ s ∷ []) ++ left) e ≡ judgeAll rs (length (ss ++ s ∷ [])) (after all (ss ++ s ∷ [])) left e
+      onward e left =
+          let l : length (ss ++ s ∷ []) ≡ suc (length ss) = omega (arith, length-append ss (s ∷ [])) in
+          rw (append-snoc, l) (a .judges e (s ∷ left) ∙ rw (step-held ss s (a .inside) hold stay))
 
-    stops : {ss left : List Marked} {said : Said} → Ends all e ss left said → (i : ℕ) → judgeAll rs i (after all ss) left e ≡ record { said = said; steps = i; configuration = after all ss }
-    unfolding judgeAll afterStep
-    stops at-end i = refl
-    stops {ss} (fails {s} f) i = rw (step-fails ss s f) (ap (λ (l : ℕ). record { said = violated l (s .time .0); steps = i; configuration = after all ss }) (line-found f))
-    stops (gap {s} h f) i = rw (step-full _ s h f) refl
+  through : (ss qs : List Marked) → Accepted all (ss ++ qs) → Reached rs all ss → Reached rs all (ss ++ qs)
+  through ss [] h a = rw append-nil a
+  through ss (s ∷ qs) h a =
+      let p = h ss qs s refl in
+      rw append-snoc at (through (ss ++ s ∷ []) qs (rw append-snoc h) (one-more ss s a (p .0) (p .1)))
+
+  stops : {e : Ending} {ss left : List Marked} {said : Said} → brokenWord rs (after all ss .words) ≡ Nowhere → Ends all e ss left said → (i : ℕ)
+      → judgeAll rs i (after all ss) left e ≡ record { said = said; steps = i; configuration = after all ss }
+  unfolding judgeAll afterStep
+  stops inside at-end i = refl
+  stops {ss = ss} inside (fails {s} f) i = rw (step-fails ss s f) (ap (λ (l : ℕ). record { said = violated l (s .time .0); steps = i; configuration = after all ss }) (line-found f))
+  stops inside (gap {s} h f) i = rw (step-full _ s inside h f) refl
 
 -- ---- where a run stops
 
@@ -206,32 +231,20 @@ pub split : (all : List Constraint) (e : Ending) (qs : List Marked) → Split al
 split all e qs = split-more all e [] qs (λ before later s q. absurd (omega (arith, length-append before (s ∷ later), ap length q)))
 
 -- from a table's start words, judging ends as the steps split
-pub judged-split : (b : Table) → table.Passes b → (e : Ending) (ss : List Marked) (x : Split (b .records) e ss)
-    → judgeAll (recordsOf b) 0 (startOf b) ss e ≡ record { said = x .said; steps = length (x .accepted); configuration = after (b .records) (x .accepted) }
-judged-split b p e ss x =
-    let room : length (recordsOf b) ≤ 64 = omega (arith, length-slots (b .count) (b .records), p .constraints) in
-    ap (λ l. judgeAll (recordsOf b) 0 (startOf b) l e) (x .place)
-    ∙ through 64 (recordsOf b) (b .records) room (p .unused) e [] (x .accepted) (x .left) (x .held)
-    ∙ stops 64 (recordsOf b) (b .records) room (p .unused) e (x .ends) (length (x .accepted))
+module _ (b : Table) (p : table.Passes b) where
+  room : length (recordsOf b) ≤ 64
+  room = omega (arith, length-slots (b .count) (b .records), p .constraints)
 
--- the words after accepted steps are in range: the start words, and those after a last step
-abbrev EmptyOrLast : List Marked → Type 0
-EmptyOrLast ss = (ss ≡ []) ⊎ ((before : List Marked) × (s : Marked) × (ss ≡ before ++ s ∷ []))
+  reached : (ss : List Marked) → Accepted (b .records) ss → Reached (recordsOf b) (b .records) ss
+  reached ss h = through 64 (recordsOf b) (b .records) room (p .unused) [] ss h (record { inside = p .words; judges = λ e left. refl })
 
-empty-or-last : (ss : List Marked) → EmptyOrLast ss
-empty-or-last [] = inl refl
-empty-or-last (x ∷ ss) = go (empty-or-last ss)
-  where
-    go : EmptyOrLast ss → EmptyOrLast (x ∷ ss)
-    go (inl e) = inr ([], x, ap (λ l. x ∷ l) e)
-    go (inr (before, s, e)) = inr (x ∷ before, s, ap (λ l. x ∷ l) e)
+  pub judged-split : (e : Ending) (ss : List Marked) (x : Split (b .records) e ss)
+      → judgeAll (recordsOf b) 0 (startOf b) ss e ≡ record { said = x .said; steps = length (x .accepted); configuration = after (b .records) (x .accepted) }
+  judged-split e ss x =
+      let a = reached (x .accepted) (x .held) in
+      ap (λ l. judgeAll (recordsOf b) 0 (startOf b) l e) (x .place)
+      ∙ a .judges e (x .left)
+      ∙ stops 64 (recordsOf b) (b .records) room (p .unused) (a .inside) (x .ends) (length (x .accepted))
 
-pub accepted-in-range : (b : Table) → table.Passes b → (ss : List Marked) → Accepted (b .records) ss → brokenWord (recordsOf b) (map (wordAfter ss) (b .records)) ≡ Nowhere
-accepted-in-range b p ss h = go (empty-or-last ss)
-  where
-    room : length (recordsOf b) ≤ 64
-    room = omega (arith, length-slots (b .count) (b .records), p .constraints)
-
-    go : EmptyOrLast ss → brokenWord (recordsOf b) (map (wordAfter ss) (b .records)) ≡ Nowhere
-    go (inl e) = rw e (p .words)
-    go (inr (before, s, e)) = rw e (out-first 64 (recordsOf b) (b .records) room (p .unused) before s ∙ every-passes _ 1 (h before [] s e .1))
+  pub accepted-in-range : (ss : List Marked) → Accepted (b .records) ss → brokenWord (recordsOf b) (map (wordAfter ss) (b .records)) ≡ Nowhere
+  accepted-in-range ss h = reached ss h .inside

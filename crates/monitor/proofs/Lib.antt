@@ -8,6 +8,7 @@ pub mod LentCalls
 pub mod LentLaws
 pub mod LentMonitor
 pub mod LentTypes
+pub mod MillionLaws
 pub mod Prefix
 pub mod RefusalLaws
 pub mod RunLaws

@@ -1,5 +1,5 @@
 -- When the calls on records are refused: case by case, in the order of their checks. Assumes nothing.
-use mathlib.Core.Path.{_≡_, refl}
+use mathlib.Core.Path.{_≡_, refl, sym, _∙_}
 use mathlib.Core.Logic.{_↔_}
 use mathlib.Core.Bool.{Bool, true, false, cond}
 use mathlib.Core.List.{List}
@@ -21,6 +21,7 @@ use Rattle.monitor.specs.Refusals as refusals
 use Rattle.monitor.specs.Single.{StepSaid, accepted, violated, refused, StepTold, refusesAt, beyondClocks, judgedTold, stepOf}
 use Rattle.monitor.specs.Step.{firstFailing, moved, handedBack, judged}
 use Rattle.monitor.specs.declared.Outcome.the-variants.{Held, Failed, Full}
+use Rattle.monitor.proofs.MillionLaws.{out-is-past}
 
 -- ---- the single step
 module _ (clocks : ℕ) (rs : List Constraint) (c : Configuration) (f : ℕ) where
@@ -45,7 +46,7 @@ module _ (clocks : ℕ) (rs : List Constraint) (c : Configuration) (f : ℕ) whe
           → Refuses (judgedTold (handedBack Failed x c (handedBack Full y c (record { outcome = Held; configuration = record { words = after } }))))
       judging u (At p) y e q = tt
       judging u Nowhere Nowhere e q = tt
-      judging u Nowhere (At p) e q = (refusals.by-gap p59 p60 (ltb-true f (2 ^ clocks) u) e q, refl)
+      judging u Nowhere (At p) e q = (refusals.by-gap p59 p60 (ltb-true f (2 ^ clocks) u) e (sym (out-is-past (bits f) 1 rs (c .words) p60 e) ∙ q), refl)
 
       ticks : (x : Bool) → ltb f (2 ^ clocks) ≡ x → Refuses (refusesAt TickSet (cond x Nowhere (at 0)) c judges)
       unfolding judged
@@ -70,7 +71,7 @@ module _ (clocks : ℕ) (rs : List Constraint) (c : Configuration) (f : ℕ) whe
   refuses-step (refusals.by-records e) = rw e
   refuses-step (refusals.by-words e q) = rw (e, q)
   refuses-step (refusals.by-ticks e q u) = rw (e, q, le-ltb f (2 ^ clocks) u)
-  refuses-step (refusals.by-gap e q u h g) = rw (e, q, lt-ltb f (2 ^ clocks) u, h, g)
+  refuses-step (refusals.by-gap e q u h g) = rw (e, q, lt-ltb f (2 ^ clocks) u, h, out-is-past (bits f) 1 rs (c .words) q h, g)
 
 pub step-refused : (clocks : ℕ) (rs : List Constraint) (c : Configuration) (f n p : ℕ) → stepOf clocks rs c f .said ≡ refused n p ↔ StepRefuses clocks rs (c .words) f n p
 step-refused clocks rs c f n p = (λ e. (rw e at (step-refuses clocks rs c f)) .0, refuses-step clocks rs c f)

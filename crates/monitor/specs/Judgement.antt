@@ -8,13 +8,14 @@ use lib.Dec.{eqb}
 use lib.ListN.{length, take}
 use Rattle.limit.specs.Limit.{numberOf}
 use Rattle.limit.specs.declared.Limit.the-variants.{Gap}
-use Rattle.constraint.specs.Meaning.{holds, nextWord, start, inRange}
+use Rattle.constraint.specs.Meaning.{holds, nextWord, start}
 use Rattle.constraint.specs.Ticks.{bits}
 use Rattle.constraint.specs.declared.Constraint.{Constraint}
 use Rattle.constraint.specs.declared.Word.{Word}
 use Rattle.table.specs.declared.Table.{Table}
 use Rattle.recording.specs.Body.{Ending, Reading}
 use Rattle.recording.specs.declared.Marked.{Marked}
+use Rattle.monitor.specs.Million.{inMillion}
 use Rattle.monitor.specs.Run.{Said, accepted, violated, refused, Told, endingSaid}
 
 -- ---- one record through a list of steps
@@ -27,12 +28,12 @@ movedBy r w (s ∷ ss) = movedBy r (nextWord r w (bits (s .ticks))) ss
 abbrev pub wordAfter : List Marked → Constraint → Word
 wordAfter ss r = movedBy r (start r) ss
 
--- a step after others: the record holds, with its word from before the step; and its word after the step is in range
+-- a step after others: the record holds, with its word from before the step; and its word after the step is within its million
 abbrev pub HoldsAt : (before : List Marked) → Marked → Constraint → Type 0
 HoldsAt before s r = holds r (wordAfter before r) (bits (s .ticks)) ≡ true
 
 abbrev pub StaysAt : (before : List Marked) → Marked → Constraint → Type 0
-StaysAt before s r = inRange r (wordAfter (before ++ s ∷ []) r) ≡ true
+StaysAt before s r = inMillion r (wordAfter (before ++ s ∷ []) r) ≡ true
 
 pub data Every {A : Type 0} (P : A → Type 0) : List A → Type 0 where
   none : Every P []
@@ -48,12 +49,12 @@ pub record First {A : Type 0} (P : A → Type 0) (xs : List A) (x : A) : Type 0 
 
 -- ---- how judging a recording ends
 
--- every record holds in every step of a list, and no word leaves its range
+-- every record holds in every step of a list, and no word leaves its million
 abbrev pub Accepted : List Constraint → List Marked → Type 0
 Accepted rs ss = (before after : List Marked) (s : Marked) → ss ≡ before ++ s ∷ after → Every (HoldsAt before s) rs × Every (StaysAt before s) rs
 
 -- what ends a run: the end of what was read; or the first step after the accepted ones, in which a record, the first that does in table
--- order, fails; or in which every record holds and a word leaves its range, 51
+-- order, fails; or in which every record holds and a word leaves its million, 51
 pub data Ends (rs : List Constraint) (ending : Ending) (accepted : List Marked) : List Marked → Said → Type 0 where
   at-end : Ends rs ending accepted [] (endingSaid ending)
   fails : {s : Marked} {later : List Marked} {r : Constraint} → First (HoldsAt accepted s) rs r → Ends rs ending accepted (s ∷ later) (violated (r .line .0) (s .time .0))

@@ -3,6 +3,7 @@ pub mod Demands
 pub mod Fold
 pub mod Judgement
 pub mod Lent
+pub mod Million
 pub mod Refusals
 pub mod Run
 pub mod Single

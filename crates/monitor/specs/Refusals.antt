@@ -15,23 +15,24 @@ use Rattle.table.specs.Reader as table
 use Rattle.recording.specs.Body.{refusedAt}
 use Rattle.recording.specs.declared.Marked.{Marked}
 use Rattle.monitor.specs.Judgement.{Accepted, Every, First, HoldsAt, StaysAt}
-use Rattle.monitor.specs.Run.{readingOf}
+use Rattle.monitor.specs.Million.{firstPast}
+use Rattle.monitor.specs.Run.{tableOf, readingBy}
 use Rattle.monitor.specs.Step.{firstFailing, moved}
 
--- a run is refused: the table is; or every step that was read is accepted, and reading is refused; or a word leaves its range
+-- a run is refused: the table is; or every step that was read is accepted, and reading is refused; or a word leaves its million, 51
 pub data RunRefuses (t r : List ℕ) : (number place : ℕ) → Type 0 where
   by-table : {n p : ℕ} → table.readTable t .said ≡ table.refused n p → RunRefuses t r n p
   by-reading : {l : Limit} {p : ℕ}
       → table.readTable t .said ≡ table.read
-      → readingOf t (table.readTable t .table) r .ending ≡ refusedAt l p
-      → Accepted (table.readTable t .table .records) (readingOf t (table.readTable t .table) r .steps)
+      → readingBy t r .ending ≡ refusedAt l p
+      → Accepted (tableOf t .records) (readingBy t r .steps)
       → RunRefuses t r (numberOf l) p
   by-gap : (before later : List Marked) (s : Marked) (c : Constraint)
       → table.readTable t .said ≡ table.read
-      → readingOf t (table.readTable t .table) r .steps ≡ before ++ s ∷ later
-      → Accepted (table.readTable t .table .records) before
-      → Every (HoldsAt before s) (table.readTable t .table .records)
-      → First (StaysAt before s) (table.readTable t .table .records) c
+      → readingBy t r .steps ≡ before ++ s ∷ later
+      → Accepted (tableOf t .records) before
+      → Every (HoldsAt before s) (tableOf t .records)
+      → First (StaysAt before s) (tableOf t .records) c
       → RunRefuses t r (numberOf Gap) (s .mark .0)
 
 -- a single step is refused: 59; 60; 61; and 51, after every constraint held; each where those before it are kept
@@ -44,7 +45,7 @@ pub data StepRefuses (clocks : ℕ) (rs : List Constraint) (ws : List Word) (f :
       → brokenWord rs ws ≡ Nowhere
       → f < 2 ^ clocks
       → firstFailing (bits f) 1 rs ws ≡ Nowhere
-      → brokenWord rs (moved (bits f) rs ws) ≡ At p
+      → firstPast 1 rs (moved (bits f) rs ws) ≡ At p
       → StepRefuses clocks rs ws f (numberOf Gap) (p .0)
 
 -- the same-place question is refused: 59; 60 of the first configuration; 60 of the second

@@ -1,0 +1,84 @@
+-- 51: once every record held with words in range, the moved words that limit 60 does not let pass are those past their million.
+-- With the places that 51 gives at the edges. Assumes nothing.
+use mathlib.Core.Path.{_≡_, refl, sym, _∙_}
+use mathlib.Core.Logic.{_⊎_, inl, inr}
+use mathlib.Core.Bool.{true, false, false≢true}
+use mathlib.Core.List.{List, [], _∷_, map}
+use Prim.Native.Nat.{ℕ, suc}
+use native.Mathlib.Omega.{arith}
+use borrow.Author.Tests.{leb-true, le-leb}
+use lib.Dec.{leb}
+use lib.IntN.{ℤ, pos, negsuc}
+use Rattle.constraint.specs.Edges.{constraint}
+use Rattle.constraint.specs.Lists.{at, firstOut}
+use Rattle.constraint.specs.Meaning.{word, counterOf, counterRange, within, holds, nextWord, inRange}
+use Rattle.constraint.specs.Ticks.{Ticks}
+use Rattle.constraint.specs.declared.Broken.{Broken}
+use Rattle.constraint.specs.declared.Broken.the-variants.{Nowhere}
+use Rattle.constraint.specs.declared.Constraint.{Constraint}
+use Rattle.constraint.specs.declared.Counter.{Counter}
+use Rattle.constraint.specs.declared.Counter.the-variants.{Fixed, Gap, Lead, Countdown, StrictSample, Sample, Until}
+use Rattle.constraint.specs.declared.Definition.the-variants.{Lub, Await}
+use Rattle.constraint.specs.declared.Kind.the-variants.{Relates, Defines}
+use Rattle.constraint.specs.declared.Parameter.{Parameter}
+use Rattle.constraint.specs.declared.Relation.the-variants.{Precedes}
+use Rattle.constraint.specs.declared.Word.{Word}
+use Rattle.constraint.proofs.Booleans.{and-l, and-r}
+use Rattle.constraint.proofs.Demand3.{nowhere}
+use Rattle.constraint.proofs.Laws.{Past, next-in-range}
+use Rattle.monitor.specs.Million.{withinMillion, inMillion, firstPast}
+use Rattle.monitor.specs.Step.{firstFailing, moved}
+
+-- ---- one word
+
+in-million : (k : Counter) (n : Parameter) (z : ℤ) → within (counterRange k n) z ≡ true → withinMillion k z ≡ true
+in-million Fixed n z e = refl
+in-million Gap n (pos m) e = and-r (leb 0 m) _ e
+in-million Gap n (negsuc m) e = absurd (false≢true e)
+in-million Lead n (pos m) e = e
+in-million Lead n (negsuc m) e = le-leb (suc m) 1_000_000 (omega (arith, leb-true m 999_999 (and-l _ _ e)))
+in-million Countdown n z e = refl
+in-million StrictSample n z e = refl
+in-million Sample n z e = refl
+in-million Until n z e = refl
+
+past-million : (k : Counter) (n : Parameter) (z : ℤ) → Past k z → within (counterRange k n) z ≡ withinMillion k z
+past-million Fixed n z p = absurd p
+past-million Gap n z p = rw p
+past-million Lead n z (inl p) = rw p
+past-million Lead n z (inr p) = rw p
+past-million Countdown n z p = absurd p
+past-million StrictSample n z p = absurd p
+past-million Sample n z p = absurd p
+past-million Until n z p = absurd p
+
+lands : (k : Counter) (n : Parameter) (z : ℤ) → (within (counterRange k n) z ≡ true) ⊎ Past k z → within (counterRange k n) z ≡ withinMillion k z
+lands k n z (inl e) = e ∙ sym (in-million k n z e)
+lands k n z (inr p) = past-million k n z p
+
+-- ---- one record, which held with a word in range
+range-is-million : (r : Constraint) (w : Word) (F : Ticks) → inRange r w ≡ true → holds r w F ≡ true → inRange r (nextWord r w F) ≡ inMillion r (nextWord r w F)
+range-is-million r w F e h = lands (counterOf (r .kind)) (r .parameter) _ (next-in-range r w F e h)
+
+-- ---- every record
+pub out-is-past : (F : Ticks) (i : ℕ) (rs : List Constraint) (ws : List Word) → firstOut i rs ws ≡ Nowhere → firstFailing F i rs ws ≡ Nowhere
+    → firstOut i rs (moved F rs ws) ≡ firstPast i rs (moved F rs ws)
+out-is-past F i [] ws e h = e
+out-is-past F i (r ∷ rs) [] e h = refl
+out-is-past F i (r ∷ rs) (w ∷ ws) e h =
+    let p = nowhere (inRange r w) _ i e in
+    let q = nowhere (holds r w F) _ i h in
+    rw (range-is-million r w F (p .0) (q .0), out-is-past F (suc i) rs ws (p .1) (q .1))
+
+-- ---- at the edges: a million and one more, either way; no other form has a million
+
+abbrev past : List ℤ → Broken
+past zs = firstPast 1 (constraint (Relates Precedes) ∷ constraint (Defines Lub) ∷ constraint (Defines Await) ∷ []) (map word zs)
+
+past-at :
+    map past (
+    (pos 1_000_000 ∷ negsuc 999_999 ∷ pos 1_000_001 ∷ []) ∷
+    (pos 1_000_001 ∷ negsuc 1_000_000 ∷ pos 0 ∷ []) ∷
+    (pos 0 ∷ negsuc 1_000_000 ∷ pos 0 ∷ []) ∷ [])
+    ≡ Nowhere ∷ at 1 ∷ at 2 ∷ []
+past-at = refl
