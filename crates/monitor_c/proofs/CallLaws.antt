@@ -1,0 +1,111 @@
+-- The checks of each call, in their order, and what it writes where all are passed. Assumes nothing.
+use mathlib.Core.Path.{_≡_, refl, sym, ap, _∙_}
+use mathlib.Core.Bool.{Bool, true, false, not}
+use mathlib.Core.List.{List, [], _∷_}
+use Prim.Native.Nat.{ℕ, _%_, _≤_, _<_}
+use native.Mathlib.Omega.{arith}
+use borrow.Author.Tests.{lt-ltb, le-ltb, eq-eqb, ne-eqb}
+use lib.IntN.{ℤ}
+use lib.ListN.{length, set}
+use Rattle.constraint.specs.SamePlace.{samePlaceOf}
+use Rattle.table.specs.Reader.{readTable}
+use Rattle.monitor.specs.Run.{runOf}
+use Rattle.monitor.specs.Single.{stepOf}
+use Rattle.monitor_c.specs.declared.Three.{Three}
+use Rattle.monitor_c.specs.Calls.{written, done, answerShort, wordsShort, recordsShort, namesShort, recordsRagged, kindUnknown, left, runLeft, runInto, tableLeft, readLeft, readInto, stepLeft, stepInto, answerLeft, placeLeft, placeInto}
+use Rattle.monitor_c.specs.Numbers.{clockOf, recordsOf, kindsKnown, configurationOf, threeAnd}
+
+-- an answer of three numbers, with two behind it
+pub five : (t : Three) (s n : ℕ) (out : List ℕ) → 5 ≤ length out → set (set (written (threeAnd t []) out) 3 s) 4 n ≡ written (threeAnd t (s ∷ n ∷ [])) out
+five t s n [] room = absurd (omega (arith, room))
+five t s n (a ∷ []) room = absurd (omega (arith, room))
+five t s n (a ∷ b ∷ []) room = absurd (omega (arith, room))
+five t s n (a ∷ b ∷ c ∷ []) room = absurd (omega (arith, room))
+five t s n (a ∷ b ∷ c ∷ d ∷ []) room = absurd (omega (arith, room))
+five t s n (a ∷ b ∷ c ∷ d ∷ e ∷ out) room = refl
+
+-- ---- ccsl_run
+
+module _ (t r out : List ℕ) (ws : List ℤ) where
+  pub run-answer-short : length out < 5 → left answerShort out ws ≡ runInto t r out ws
+  unfolding runInto
+  run-answer-short a = rw (lt-ltb (length out) 5 a) refl
+
+  pub run-words-short : 5 ≤ length out → length ws < 64 → left wordsShort out ws ≡ runInto t r out ws
+  unfolding runInto
+  run-words-short a w = rw (le-ltb (length out) 5 a, lt-ltb (length ws) 64 w) refl
+
+  pub run-done : 5 ≤ length out → 64 ≤ length ws → runLeft (runOf t r) out ws ≡ runInto t r out ws
+  unfolding runInto
+  run-done a w = rw (le-ltb (length out) 5 a, le-ltb (length ws) 64 w) refl
+
+-- ---- ccsl_read_table
+
+module _ (t out rs ns : List ℕ) where
+  pub read-answer-short : length out < 5 → tableLeft answerShort out rs ns ≡ readInto t out rs ns
+  unfolding readInto
+  read-answer-short a = rw (lt-ltb (length out) 5 a) refl
+
+  pub read-records-short : 5 ≤ length out → length rs < 384 → tableLeft recordsShort out rs ns ≡ readInto t out rs ns
+  unfolding readInto
+  read-records-short a b = rw (le-ltb (length out) 5 a, lt-ltb (length rs) 384 b) refl
+
+  pub read-names-short : 5 ≤ length out → 384 ≤ length rs → length ns < 64 → tableLeft namesShort out rs ns ≡ readInto t out rs ns
+  unfolding readInto
+  read-names-short a b c = rw (le-ltb (length out) 5 a, le-ltb (length rs) 384 b, lt-ltb (length ns) 64 c) refl
+
+  pub read-done : 5 ≤ length out → 384 ≤ length rs → 64 ≤ length ns → readLeft (readTable t) out rs ns ≡ readInto t out rs ns
+  unfolding readInto
+  read-done a b c = rw (le-ltb (length out) 5 a, le-ltb (length rs) 384 b, le-ltb (length ns) 64 c) refl
+
+-- ---- ccsl_step
+
+module _ (ns : List ℕ) (clocks f : ℕ) (out : List ℕ) (ws : List ℤ) where
+  pub step-answer-short : length out < 3 → left answerShort out ws ≡ stepInto ns clocks f out ws
+  unfolding stepInto
+  step-answer-short a = rw (lt-ltb (length out) 3 a) refl
+
+  pub step-words-short : 3 ≤ length out → length ws < 64 → left wordsShort out ws ≡ stepInto ns clocks f out ws
+  unfolding stepInto
+  step-words-short a w = rw (le-ltb (length out) 3 a, lt-ltb (length ws) 64 w) refl
+
+  pub step-ragged : 3 ≤ length out → 64 ≤ length ws → (length ns % 6 ≡ 0 → ⊥) → left recordsRagged out ws ≡ stepInto ns clocks f out ws
+  unfolding stepInto
+  step-ragged a w r = rw (le-ltb (length out) 3 a, le-ltb (length ws) 64 w, ne-eqb (length ns % 6) 0 r) refl
+
+  pub step-unknown : 3 ≤ length out → 64 ≤ length ws → length ns % 6 ≡ 0 → kindsKnown ns ≡ false → left kindUnknown out ws ≡ stepInto ns clocks f out ws
+  unfolding stepInto
+  step-unknown a w r k = rw (le-ltb (length out) 3 a, le-ltb (length ws) 64 w, eq-eqb (length ns % 6) 0 r, k) refl
+
+  pub step-done : 3 ≤ length out → 64 ≤ length ws → length ns % 6 ≡ 0 → kindsKnown ns ≡ true
+      → stepLeft (stepOf (clockOf clocks) (recordsOf ns) (configurationOf ws) f) out ws ≡ stepInto ns clocks f out ws
+  unfolding stepInto
+  step-done a w r k = rw (le-ltb (length out) 3 a, le-ltb (length ws) 64 w, eq-eqb (length ns % 6) 0 r, k) refl
+
+-- ---- ccsl_same_place
+
+module _ (ns : List ℕ) (clocks : ℕ) (ws vs : List ℤ) (out : List ℕ) where
+  pub place-answer-short : length out < 3 → answerLeft answerShort out ≡ placeInto ns clocks ws vs out
+  unfolding placeInto
+  place-answer-short a = rw (lt-ltb (length out) 3 a) refl
+
+  pub place-first-short : 3 ≤ length out → length ws < 64 → answerLeft wordsShort out ≡ placeInto ns clocks ws vs out
+  unfolding placeInto
+  place-first-short a w = rw (le-ltb (length out) 3 a, lt-ltb (length ws) 64 w) refl
+
+  pub place-second-short : 3 ≤ length out → 64 ≤ length ws → length vs < 64 → answerLeft wordsShort out ≡ placeInto ns clocks ws vs out
+  unfolding placeInto
+  place-second-short a w v = rw (le-ltb (length out) 3 a, le-ltb (length ws) 64 w, lt-ltb (length vs) 64 v) refl
+
+  pub place-ragged : 3 ≤ length out → 64 ≤ length ws → 64 ≤ length vs → (length ns % 6 ≡ 0 → ⊥) → answerLeft recordsRagged out ≡ placeInto ns clocks ws vs out
+  unfolding placeInto
+  place-ragged a w v r = rw (le-ltb (length out) 3 a, le-ltb (length ws) 64 w, le-ltb (length vs) 64 v, ne-eqb (length ns % 6) 0 r) refl
+
+  pub place-unknown : 3 ≤ length out → 64 ≤ length ws → 64 ≤ length vs → length ns % 6 ≡ 0 → kindsKnown ns ≡ false → answerLeft kindUnknown out ≡ placeInto ns clocks ws vs out
+  unfolding placeInto
+  place-unknown a w v r k = rw (le-ltb (length out) 3 a, le-ltb (length ws) 64 w, le-ltb (length vs) 64 v, eq-eqb (length ns % 6) 0 r, k) refl
+
+  pub place-done : 3 ≤ length out → 64 ≤ length ws → 64 ≤ length vs → length ns % 6 ≡ 0 → kindsKnown ns ≡ true
+      → placeLeft (samePlaceOf (clockOf clocks) (recordsOf ns) (configurationOf ws .words) (configurationOf vs .words)) out ≡ placeInto ns clocks ws vs out
+  unfolding placeInto
+  place-done a w v r k = rw (le-ltb (length out) 3 a, le-ltb (length ws) 64 w, le-ltb (length vs) 64 v, eq-eqb (length ns % 6) 0 r, k) refl

@@ -1,0 +1,56 @@
+-- `ccsl_read_table` meets its contract: the checks, then what the reader told, written number by number. Assumes nothing.
+use mathlib.Core.Path.{ap, _∙_}
+use mathlib.Core.List.{[], _∷_}
+use lib.ListN.{set}
+use Rattle.table.specs.Reader.{said}
+use Rattle.monitor_c.specs.Calls.{written, done, tableLeft, readLeft}
+use Rattle.monitor_c.specs.Numbers.{ofTable, threeAnd, recordNumbers}
+use Rattle.monitor_c.proofs.CallLaws.{five, read-answer-short, read-records-short, read-names-short, read-done}
+use borrow.Author.Needs.{needs}
+use Rattle.monitor_c.proofs.ccsl_read_table.Statement.{statement}
+use Rattle.monitor_c.proofs.ccsl_read_table.Tie as tie
+
+returns-4 : tie.Need-returns-4
+returns-4 c =
+    let written-names = c .before .before in
+    let written-records = written-names .before .before .before .before in
+    let three = written-records .before .before .before .before .before .before in
+    let numbers = three .before in
+    let read = numbers .before .before .before .before in
+    let e3 = read .before in
+    let e2 = e3 .before in
+    let e1 = e2 .before in
+    let s = e1 .before .before .before .before .before .args in
+    let q = read .read-table .result in
+    let out = s .answer .now in
+    let rs = s .records .now in
+    let ns = s .names .now in
+    let k = q .table .count in
+    let n = q .table .names .count in
+    let answer = written (threeAnd (ofTable (said (q .outcome))) (k ∷ n ∷ [])) out in
+    ap (λ a. tableLeft done (set (set a 3 k) 4 n) (written-records .put-records .last .0) (written-names .put-names .last .0)) (three .put-three .ensures)
+    ∙ ap (λ v. tableLeft done (set (set (written (threeAnd v []) out) 3 k) 4 n) (written-records .put-records .last .0) (written-names .put-names .last .0)) (numbers .table-numbers .ensures)
+    ∙ ap (λ a. tableLeft done a (written-records .put-records .last .0) (written-names .put-names .last .0)) (five (ofTable (said (q .outcome))) k n out (e1 .if1 .left))
+    ∙ ap (λ xs. tableLeft done answer xs (written-names .put-names .last .0)) (written-records .put-records .ensures)
+    ∙ ap (λ xs. tableLeft done answer (written (recordNumbers (q .table .records)) rs) xs) (written-names .put-names .ensures)
+    ∙ ap (λ t. readLeft t out rs ns) (read .read-table .ensures)
+    ∙ read-done (s .text .now) out rs ns (e1 .if1 .left) (e2 .if2 .left) (e3 .if3 .left)
+
+pub ccsl-read-table-spec : {M : Type 1} → statement M
+ccsl-read-table-spec =
+    tie.close
+    (tie.spec
+    (λ c. read-answer-short _ _ _ _ (c .if1 .taken))
+    (λ c. read-records-short _ _ _ _ (c .before .if1 .left) (c .if2 .taken))
+    (λ c. read-names-short _ _ _ _ (c .before .before .if1 .left) (c .before .if2 .left) (c .if3 .taken))
+    (λ c κs. search needs)
+    (λ c κs. search needs)
+    (λ c κs. search needs)
+    (λ c. search needs)
+    (λ c. search needs)
+    (λ c κs. search needs)
+    (λ c κs. search needs)
+    (λ c. search needs)
+    (λ c. search needs)
+    (λ c. search needs)
+    returns-4)

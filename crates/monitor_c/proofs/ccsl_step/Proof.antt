@@ -1,0 +1,72 @@
+-- `ccsl_step` meets its contract: the checks, then the step on the records that the numbers stand for, written back. Assumes nothing.
+use mathlib.Core.Path.{sym, ap, _∙_}
+use mathlib.Core.List.{[]}
+use Prim.Native.Nat.{_/_}
+use borrow.Author.Tests.{not-true, not-false}
+use lib.ListN.{length, replicate}
+use lib.Seq.{sets}
+use Rattle.constraint.specs.Lists.{empty}
+use Rattle.monitor.specs.Lent.{lent}
+use Rattle.monitor.specs.Single.{stepOf, stepSaid}
+use Rattle.monitor_c.specs.Calls.{written, done, left, stepLeft}
+use Rattle.monitor_c.specs.Numbers.{clockOf, recordsOf, configurationOf, ofStep, threeAnd}
+use Rattle.monitor_c.proofs.CallLaws.{step-answer-short, step-words-short, step-ragged, step-unknown, step-done}
+use Rattle.monitor_c.proofs.RecordLaws.{step-lent}
+use borrow.Author.Needs.{needs}
+use Rattle.monitor_c.proofs.ccsl_step.Statement.{statement}
+use Rattle.monitor_c.proofs.ccsl_step.Tie as tie
+
+returns-4 : tie.Need-returns-4
+returns-4 c =
+    let known = c .before in
+    let e3 = known .before in
+    step-unknown _ _ _ _ _ (e3 .before .before .if1 .left) (e3 .before .if2 .left) (e3 .if3 .left) (sym (known .kinds-known .ensures) ∙ not-true _ (c .if4 .taken))
+
+returns-5 : tie.Need-returns-5
+returns-5 c =
+    let words = c .before .put-words in
+    let three = c .before .before .before .before .before in
+    let numbers = three .before in
+    let stepped = numbers .before .before .before in
+    let configuration = stepped .before in
+    let clocks = configuration .before .before in
+    let records = clocks .before in
+    let e4 = records .before in
+    let known = e4 .before in
+    let e3 = known .before in
+    let e2 = e3 .before in
+    let e1 = e2 .before in
+    let s = e1 .before .before .before .args in
+    let q = stepped .step-on .result in
+    let out = s .answer .now in
+    let ws = s .words .now in
+    let ns = s .records .now in
+    ap (λ a. left done a (words .last .0)) (three .put-three .ensures)
+    ∙ ap (λ v. left done (written (threeAnd v []) out) (words .last .0)) (numbers .step-numbers .ensures)
+    ∙ ap (λ w. left done (written (threeAnd (ofStep (stepSaid (q .answer))) []) out) w) (words .ensures)
+    ∙ ap (λ t. stepLeft t out ws) (stepped .step-on .ensures)
+    ∙ ap (λ rs. stepLeft (stepOf (clocks .clock-of .result) (lent (length ns / 6) rs) (configuration .configuration-of .result) (s .ticks)) out ws) (records .records-of .ensures)
+    ∙ ap (λ k. stepLeft (stepOf k (lent (length ns / 6) (sets (replicate 66 empty) 0 (recordsOf ns))) (configuration .configuration-of .result) (s .ticks)) out ws) (clocks .clock-of .ensures)
+    ∙ ap (λ g. stepLeft (stepOf (clockOf (s .clocks)) (lent (length ns / 6) (sets (replicate 66 empty) 0 (recordsOf ns))) g (s .ticks)) out ws) (configuration .configuration-of .ensures)
+    ∙ ap (λ t. stepLeft t out ws) (step-lent (clockOf (s .clocks)) ns (configurationOf ws) (s .ticks))
+    ∙ step-done ns (s .clocks) (s .ticks) out ws (e1 .if1 .left) (e2 .if2 .left) (e3 .if3 .left) (sym (known .kinds-known .ensures) ∙ not-false _ (e4 .if4 .left))
+
+pub ccsl-step-spec : {M : Type 1} → statement M
+ccsl-step-spec =
+    tie.close
+    (tie.spec
+    (λ c. step-answer-short _ _ _ _ _ (c .if1 .taken))
+    (λ c. step-words-short _ _ _ _ _ (c .before .if1 .left) (c .if2 .taken))
+    (λ c. step-ragged _ _ _ _ _ (c .before .before .if1 .left) (c .before .if2 .left) (c .if3 .taken))
+    (λ c κs. search needs)
+    returns-4
+    (λ c κs. search needs)
+    (λ c κs. search needs)
+    (λ c κs. search needs)
+    (λ c κs. search needs)
+    (λ c κs. search needs)
+    (λ c κs. search needs)
+    (λ c κs. search needs)
+    (λ c. search needs)
+    (λ c. search needs)
+    returns-5)

@@ -1,0 +1,55 @@
+-- Six numbers in a row, each read and named. Assumes nothing.
+use mathlib.Core.Path.{_≡_, refl, sym, ap, _∙_}
+use Prim.Native.Nat.{_<_, _+_}
+use lib.ListN.{getD}
+use native.Mathlib.Omega.{arith}
+use Rattle.monitor_c.proofs.RecordLaws.{at-most}
+use borrow.Author.Needs.{needs}
+use Rattle.monitor_c.proofs.records.record_at.Statement.{statement}
+use Rattle.monitor_c.proofs.records.record_at.Tie as tie
+
+cast-t27 : tie.Need-cast-t27
+cast-t27 c =
+    let s = c .before .before .before .before .before .before .before .before .before .before .before .args in
+    let ns = s .numbers .now in
+    let i = s .at in
+    let below : c .at-most .result < 4_294_967_296 = rw (c .at-most .ensures) (omega (arith, at-most 4_294_967_295 (getD ns (i + 4) 0))) in
+    search (needs, below)
+
+returns : tie.Need-returns
+returns c =
+    let number = c .before in
+    let second = number .before .before in
+    let first = second .before .before in
+    let defined = first .before .before in
+    let kind = defined .before .before in
+    rw (kind .kind-of .ensures, defined .clock-of .ensures, first .clock-of2 .ensures, second .clock-of3 .ensures, number .at-most .ensures) refl
+
+pub record-at-spec : {M : Type 1} → statement M
+record-at-spec =
+    tie.close
+    (tie.spec
+    (λ c. search needs)
+    (λ c. search needs)
+    (λ c κs. search needs)
+    (λ c. search needs)
+    (λ c. search needs)
+    (λ c. search needs)
+    (λ c κs. search needs)
+    (λ c. search needs)
+    (λ c. search needs)
+    (λ c. search needs)
+    (λ c κs. search needs)
+    (λ c. search needs)
+    (λ c. search needs)
+    (λ c. search needs)
+    (λ c κs. search needs)
+    (λ c. search needs)
+    (λ c. search needs)
+    (λ c. search needs)
+    (λ c κs. search needs)
+    cast-t27
+    (λ c. search needs)
+    (λ c. search needs)
+    (λ c. search needs)
+    returns)

@@ -1,0 +1,128 @@
+-- What each call returns and writes: `include/ccsl_monitor.h`, function by function. Assumes nothing.
+use mathlib.Core.Bool.{Bool, not, cond}
+use mathlib.Core.List.{List, [], _∷_, _++_}
+use Prim.Native.Nat.{ℕ, _%_}
+use lib.Dec.{eqb, ltb}
+use lib.IntN.{ℤ}
+use lib.ListN.{length, take, drop}
+use Rattle.constraint.specs.SamePlace as place
+use Rattle.constraint.specs.SamePlace.{samePlaceOf}
+use Rattle.constraint.specs.declared.Constraint.{Constraint}
+use Rattle.table.specs.Reader as table
+use Rattle.monitor.specs.Run as run
+use Rattle.monitor.specs.Single as single
+use Rattle.monitor_c.specs.Numbers.{clockOf, recordsOf, kindsKnown, recordNumbers, nameNumbers, configurationOf, wordNumbers, ofRun, ofTable, ofStep, ofPlace, threeAnd}
+
+-- numbers, in the place of the first of a list; the rest is left alone
+abbrev pub written : {A : Type 0} → List A → List A → List A
+written vs xs = vs ++ drop (length vs) xs
+
+-- ---- the status of a call
+
+abbrev pub done : ℕ
+done = 0
+
+abbrev pub answerShort : ℕ
+answerShort = 1
+
+abbrev pub wordsShort : ℕ
+wordsShort = 2
+
+abbrev pub recordsShort : ℕ
+recordsShort = 3
+
+abbrev pub namesShort : ℕ
+namesShort = 4
+
+abbrev pub recordsRagged : ℕ
+recordsRagged = 5
+
+abbrev pub kindUnknown : ℕ
+kindUnknown = 6
+
+-- the numbers of `records` do not come in sixes
+abbrev pub ragged : List ℕ → Bool
+ragged ns = not (eqb (length ns % 6) 0)
+
+abbrev pub short : {A : Type 0} → List A → ℕ → Bool
+short xs n = ltb (length xs) n
+
+-- ---- ccsl_run
+
+-- a status, and what two lists then hold
+pub record Left : Type 0 where
+  pub status : ℕ
+  pub answer : List ℕ
+  pub words : List ℤ
+
+abbrev pub left : (status : ℕ) → (answer : List ℕ) → (words : List ℤ) → Left
+left s out ws = record { status = s; answer = out; words = ws }
+
+abbrev pub runLeft : run.Told → List ℕ → List ℤ → Left
+runLeft t out ws =
+    left done (written (threeAnd (ofRun (t .said)) (t .steps ∷ t .constraints ∷ [])) out) (written (wordNumbers (t .configuration)) ws)
+
+unfoldable pub runInto : (table recording : List ℕ) → (answer : List ℕ) → (words : List ℤ) → Left
+runInto t r out ws =
+    cond (short out 5) (left answerShort out ws)
+    (cond (short ws 64) (left wordsShort out ws)
+    (runLeft (run.runOf t r) out ws))
+
+-- ---- ccsl_read_table
+
+pub record TableLeft : Type 0 where
+  pub status : ℕ
+  pub answer : List ℕ
+  pub records : List ℕ
+  pub names : List ℕ
+
+abbrev pub tableLeft : (status : ℕ) → (answer records names : List ℕ) → TableLeft
+tableLeft s out rs ns = record { status = s; answer = out; records = rs; names = ns }
+
+abbrev pub readLeft : table.Told → (answer records names : List ℕ) → TableLeft
+readLeft t out rs ns =
+    tableLeft done
+    (written (threeAnd (ofTable (t .said)) (t .table .count ∷ t .table .names .count ∷ [])) out)
+    (written (recordNumbers (t .table .records)) rs)
+    (written (nameNumbers (t .table .names .spans)) ns)
+
+unfoldable pub readInto : (text : List ℕ) → (answer records names : List ℕ) → TableLeft
+readInto t out rs ns =
+    cond (short out 5) (tableLeft answerShort out rs ns)
+    (cond (short rs 384) (tableLeft recordsShort out rs ns)
+    (cond (short ns 64) (tableLeft namesShort out rs ns)
+    (readLeft (table.readTable t) out rs ns)))
+
+-- ---- ccsl_step
+
+abbrev pub stepLeft : single.StepTold → List ℕ → List ℤ → Left
+stepLeft t out ws = left done (written (threeAnd (ofStep (t .said)) []) out) (written (wordNumbers (t .configuration)) ws)
+
+unfoldable pub stepInto : (records : List ℕ) → (clocks ticks : ℕ) → (answer : List ℕ) → (words : List ℤ) → Left
+stepInto ns clocks f out ws =
+    cond (short out 3) (left answerShort out ws)
+    (cond (short ws 64) (left wordsShort out ws)
+    (cond (ragged ns) (left recordsRagged out ws)
+    (cond (not (kindsKnown ns)) (left kindUnknown out ws)
+    (stepLeft (single.stepOf (clockOf clocks) (recordsOf ns) (configurationOf ws) f) out ws))))
+
+-- ---- ccsl_same_place
+
+pub record AnswerLeft : Type 0 where
+  pub status : ℕ
+  pub answer : List ℕ
+
+abbrev pub answerLeft : (status : ℕ) → (answer : List ℕ) → AnswerLeft
+answerLeft s out = record { status = s; answer = out }
+
+abbrev pub placeLeft : place.Answer → List ℕ → AnswerLeft
+placeLeft a out = answerLeft done (written (threeAnd (ofPlace a) []) out)
+
+unfoldable pub placeInto : (records : List ℕ) → (clocks : ℕ) → (first second : List ℤ) → (answer : List ℕ) → AnswerLeft
+placeInto ns clocks ws vs out =
+    cond (short out 3) (answerLeft answerShort out)
+    (cond (short ws 64) (answerLeft wordsShort out)
+    (cond (short vs 64) (answerLeft wordsShort out)
+    (cond (ragged ns) (answerLeft recordsRagged out)
+    (cond (not (kindsKnown ns)) (answerLeft kindUnknown out)
+    (placeLeft (samePlaceOf (clockOf clocks) (recordsOf ns) (configurationOf ws .words) (configurationOf vs .words)) out)))))

@@ -1,0 +1,161 @@
+-- Kinds, records and answers as numbers: what `include/ccsl_monitor.h` says of their layout. Assumes nothing.
+use mathlib.Core.Bool.{Bool, true, cond, _&&_}
+use mathlib.Core.List.{List, [], _∷_, map}
+use Prim.Native.Nat.{ℕ, _+_}
+use lib.Dec.{leb}
+use lib.IntN.{ℤ}
+use lib.ListN.{getD, take}
+use Rattle.constraint.specs.Meaning.{word}
+use Rattle.constraint.specs.SamePlace as place
+use Rattle.constraint.specs.declared.Configuration.{Configuration}
+use Rattle.constraint.specs.declared.Constraint.{Constraint}
+use Rattle.constraint.specs.declared.Definition.the-variants.{Union, Inter, Lub, Glb, Await, StrictlySampled, Sampled, Upto}
+use Rattle.constraint.specs.declared.Kind.{Kind}
+use Rattle.constraint.specs.declared.Kind.the-variants.{Empty, Relates, Defines}
+use Rattle.constraint.specs.declared.Relation.the-variants.{Coincides, Excludes, SubClock, StrictlyPrecedes, Precedes}
+use Rattle.constraint.specs.declared.Word.{Word}
+use Rattle.text.specs.declared.Span.{Span}
+use Rattle.table.specs.Reader as table
+use Rattle.monitor.specs.Run as run
+use Rattle.monitor.specs.Single as single
+use Rattle.monitor_c.specs.declared.Three.{Three}
+
+-- ---- kinds
+
+-- in the order of their numbers, from 0
+abbrev pub kinds : List Kind
+kinds =
+    Empty
+    ∷ Relates Coincides ∷ Relates Excludes ∷ Relates SubClock ∷ Relates StrictlyPrecedes ∷ Relates Precedes
+    ∷ Defines Union ∷ Defines Inter ∷ Defines Lub ∷ Defines Glb ∷ Defines Await ∷ Defines StrictlySampled ∷ Defines Sampled ∷ Defines Upto
+    ∷ []
+
+-- the kind with a number; no kind has a number above 13
+abbrev pub kindOf : ℕ → Kind
+kindOf n = getD kinds n Empty
+
+abbrev pub kindNumber : Kind → ℕ
+kindNumber Empty = 0
+kindNumber (Relates Coincides) = 1
+kindNumber (Relates Excludes) = 2
+kindNumber (Relates SubClock) = 3
+kindNumber (Relates StrictlyPrecedes) = 4
+kindNumber (Relates Precedes) = 5
+kindNumber (Defines Union) = 6
+kindNumber (Defines Inter) = 7
+kindNumber (Defines Lub) = 8
+kindNumber (Defines Glb) = 9
+kindNumber (Defines Await) = 10
+kindNumber (Defines StrictlySampled) = 11
+kindNumber (Defines Sampled) = 12
+kindNumber (Defines Upto) = 13
+
+-- ---- records: kind, c, a, b, n, line
+
+-- a number above the most that is let pass counts as that
+abbrev pub atMost : (most n : ℕ) → ℕ
+atMost most n = cond (leb n most) n most
+
+abbrev pub clockOf : ℕ → ℕ
+clockOf n = atMost 255 n
+
+-- the six numbers of a record
+pub record Six : Type 0 where
+  pub kind : ℕ
+  pub c : ℕ
+  pub a : ℕ
+  pub b : ℕ
+  pub n : ℕ
+  pub line : ℕ
+
+abbrev pub recordOf : Six → Constraint
+recordOf s = record {
+  kind = kindOf (s .kind);
+  defined = clockOf (s .c);
+  first = clockOf (s .a);
+  second = clockOf (s .b);
+  parameter = record { 0 = atMost 4_294_967_295 (s .n) };
+  line = record { 0 = s .line };
+}
+
+-- the numbers in sixes; what is left at the end is no record
+unfoldable pub sixes : List ℕ → List Six
+sixes [] = []
+sixes (k ∷ []) = []
+sixes (k ∷ c ∷ []) = []
+sixes (k ∷ c ∷ a ∷ []) = []
+sixes (k ∷ c ∷ a ∷ b ∷ []) = []
+sixes (k ∷ c ∷ a ∷ b ∷ n ∷ []) = []
+sixes (k ∷ c ∷ a ∷ b ∷ n ∷ l ∷ ns) = record { kind = k; c = c; a = a; b = b; n = n; line = l } ∷ sixes ns
+
+abbrev pub recordsOf : List ℕ → List Constraint
+recordsOf ns = map recordOf (sixes ns)
+
+-- whether every record's number of a kind is one
+abbrev pub allKnown : List Six → Bool
+allKnown [] = true
+allKnown (s ∷ ss) = leb (s .kind) 13 && allKnown ss
+
+abbrev pub kindsKnown : List ℕ → Bool
+kindsKnown ns = allKnown (sixes ns)
+
+-- the six from an offset on
+abbrev pub sixAt : List ℕ → ℕ → Six
+sixAt ns i = record {
+  kind = getD ns i 0;
+  c = getD ns (i + 1) 0;
+  a = getD ns (i + 2) 0;
+  b = getD ns (i + 3) 0;
+  n = getD ns (i + 4) 0;
+  line = getD ns (i + 5) 0;
+}
+
+-- the numbers of records, in their order
+abbrev pub recordNumbers : List Constraint → List ℕ
+recordNumbers [] = []
+recordNumbers (r ∷ rs) = kindNumber (r .kind) ∷ r .defined ∷ r .first ∷ r .second ∷ r .parameter .0 ∷ r .line .0 ∷ recordNumbers rs
+
+-- where names start and end
+abbrev pub nameNumbers : List Span → List ℕ
+nameNumbers [] = []
+nameNumbers (p ∷ ps) = p .start ∷ p .end ∷ nameNumbers ps
+
+-- ---- configurations
+
+abbrev pub configurationOf : List ℤ → Configuration
+configurationOf ws = record { words = map word (take 64 ws) }
+
+abbrev pub wordNumber : Word → ℤ
+wordNumber w = w .0
+
+abbrev pub wordNumbers : Configuration → List ℤ
+wordNumbers c = map wordNumber (c .words)
+
+-- ---- answers: what is said, 0 accepted, 1 violated, 2 refused, and its two numbers
+
+abbrev pub three : (said first second : ℕ) → Three
+three s a b = record { said = s; first = a; second = b }
+
+abbrev pub ofRun : run.Said → Three
+ofRun run.accepted = three 0 0 0
+ofRun (run.violated line time) = three 1 line time
+ofRun (run.refused number place) = three 2 number place
+
+abbrev pub ofTable : table.Said → Three
+ofTable table.read = three 0 0 0
+ofTable (table.refused number line) = three 2 number line
+
+abbrev pub ofStep : single.StepSaid → Three
+ofStep single.accepted = three 0 0 0
+ofStep (single.violated r) = three 1 r 0
+ofStep (single.refused number place) = three 2 number place
+
+-- the same place, different places, refused
+abbrev pub ofPlace : place.Answer → Three
+ofPlace place.same = three 0 0 0
+ofPlace place.different = three 1 0 0
+ofPlace (place.refused number p) = three 2 number p
+
+-- the numbers of an answer, with others behind them
+abbrev pub threeAnd : Three → List ℕ → List ℕ
+threeAnd t ns = t .said ∷ t .first ∷ t .second ∷ ns

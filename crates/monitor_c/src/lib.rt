@@ -1,0 +1,176 @@
+// The checker for C and Rust: `include/ccsl_monitor.h` says what each call takes and writes. Lists of numbers come in and go out; a list
+// that has not the shape that a call asks for is answered by a status, and nothing is written.
+mod lists;
+mod numbers;
+mod records;
+
+use lists::configuration_of;
+use lists::put_names;
+use lists::put_records;
+use lists::put_three;
+use lists::put_words;
+use numbers::place_numbers;
+use numbers::step_numbers;
+use numbers::table_numbers;
+use numbers::verdict_numbers;
+use records::clock_of;
+use records::kinds_known;
+use records::records_of;
+ghost use mathlib.Core.Path.{_≡_};
+ghost use Rattle.monitor_c.specs.Calls.{left, runInto, tableLeft, readInto, stepInto, answerLeft, placeInto};
+
+// What every call returns, in the order of the checks.
+pub const DONE: u32 = 0;
+
+pub const ANSWER_SHORT: u32 = 1;
+
+pub const WORDS_SHORT: u32 = 2;
+
+pub const RECORDS_SHORT: u32 = 3;
+
+pub const NAMES_SHORT: u32 = 4;
+
+pub const RECORDS_RAGGED: u32 = 5;
+
+pub const KIND_UNKNOWN: u32 = 6;
+
+// An answer: what is said, and its two numbers, 0 where it has none.
+pub struct Three {
+    pub said: u64,
+    pub first: u64,
+    pub second: u64,
+}
+
+// Judges a recording by a table.
+#[no_mangle]
+pub extern "C" fn ccsl_run(
+    table: &[u8],
+    recording: &[u8],
+    answer: &mut [u64],
+    words: &mut [i64],
+) -> u32
+    ensures { λ r. ⌜ left r (now (answer .exit)) (now (words .exit)) ≡ runInto (now (table .entry)) (now (recording .entry)) (now (answer .entry)) (now (words .entry)) ⌝ }
+{
+    if answer.len() < 5 {
+        return ANSWER_SHORT;
+    }
+    if words.len() < 64 {
+        return WORDS_SHORT;
+    }
+    let report = monitor::run(table, recording);
+    let verdict = report.verdict;
+    let steps = report.steps;
+    let configuration = report.configuration;
+    put_three(answer, verdict_numbers(verdict));
+    answer[3] = steps.0;
+    answer[4] = report.constraints as u64;
+    put_words(words, configuration);
+    DONE
+}
+
+// Reads a table.
+#[no_mangle]
+pub extern "C" fn ccsl_read_table(
+    text: &[u8],
+    answer: &mut [u64],
+    records: &mut [u64],
+    names: &mut [u64],
+) -> u32
+    ensures { λ r. ⌜ tableLeft r (now (answer .exit)) (now (records .exit)) (now (names .exit)) ≡ readInto (now (text .entry)) (now (answer .entry)) (now (records .entry)) (now (names .entry)) ⌝ }
+{
+    if answer.len() < 5 {
+        return ANSWER_SHORT;
+    }
+    if records.len() < 384 {
+        return RECORDS_SHORT;
+    }
+    if names.len() < 64 {
+        return NAMES_SHORT;
+    }
+    let read = table::read_table(text);
+    let outcome = read.outcome;
+    let table = read.table;
+    let clocks = table.names;
+    put_three(answer, table_numbers(outcome));
+    answer[3] = table.count as u64;
+    answer[4] = clocks.count as u64;
+    let rows = table.records;
+    let spans = clocks.spans;
+    put_records(records, rows);
+    put_names(names, spans);
+    DONE
+}
+
+// One step on a configuration, which is moved where it stands.
+#[no_mangle]
+pub extern "C" fn ccsl_step(
+    records: &[u64],
+    clocks: u32,
+    words: &mut [i64],
+    ticks: u32,
+    answer: &mut [u64],
+) -> u32
+    ensures { λ r. ⌜ left r (now (answer .exit)) (now (words .exit)) ≡ stepInto (now (records .entry)) clocks ticks (now (answer .entry)) (now (words .entry)) ⌝ }
+{
+    if answer.len() < 3 {
+        return ANSWER_SHORT;
+    }
+    if words.len() < 64 {
+        return WORDS_SHORT;
+    }
+    if records.len() % 6 != 0 {
+        return RECORDS_RAGGED;
+    }
+    if !kinds_known(records) {
+        return KIND_UNKNOWN;
+    }
+    let stepped = monitor::step_on(
+        records_of(records),
+        records.len() / 6,
+        clock_of(clocks as u64),
+        configuration_of(words),
+        ticks,
+    );
+    let said = stepped.answer;
+    let configuration = stepped.configuration;
+    put_three(answer, step_numbers(said));
+    put_words(words, configuration);
+    DONE
+}
+
+// Whether two configurations stand at the same place.
+#[no_mangle]
+pub extern "C" fn ccsl_same_place(
+    records: &[u64],
+    clocks: u32,
+    first: &[i64],
+    second: &[i64],
+    answer: &mut [u64],
+) -> u32
+    ensures { λ r. ⌜ answerLeft r (now (answer .exit)) ≡ placeInto (now (records .entry)) clocks (now (first .entry)) (now (second .entry)) (now (answer .entry)) ⌝ }
+{
+    if answer.len() < 3 {
+        return ANSWER_SHORT;
+    }
+    if first.len() < 64 {
+        return WORDS_SHORT;
+    }
+    if second.len() < 64 {
+        return WORDS_SHORT;
+    }
+    if records.len() % 6 != 0 {
+        return RECORDS_RAGGED;
+    }
+    if !kinds_known(records) {
+        return KIND_UNKNOWN;
+    }
+    let place = monitor::same_place_on(
+        records_of(records),
+        records.len() / 6,
+        clock_of(clocks as u64),
+        configuration_of(first),
+        configuration_of(second),
+    );
+    put_three(answer, place_numbers(place));
+    DONE
+}

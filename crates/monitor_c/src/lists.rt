@@ -1,0 +1,94 @@
+// Lists of numbers that are written, and words that are read.
+use super::Three;
+use super::numbers::kind_number;
+use constraint::Configuration;
+use constraint::Constraint;
+use constraint::Word;
+use text::Span;
+ghost use mathlib.Core.Path.{_≡_};
+ghost use mathlib.Core.List.{[], _∷_};
+ghost use Prim.Native.Nat.{_+_, _≤_};
+ghost use lib.ListN.{length};
+ghost use lib.Seq.{sets};
+ghost use Rattle.monitor_c.specs.Calls.{written};
+ghost use Rattle.monitor_c.specs.Numbers.{threeAnd, wordNumbers, recordNumbers, nameNumbers, configurationOf};
+
+// Writes an answer.
+pub fn put_three(answer: &mut [u64], three: Three)
+    requires { ⌜ 3 ≤ length (now answer) ⌝ }
+    ensures { λ r. ⌜ now (answer .exit) ≡ written (threeAnd three []) (now (answer .entry)) ⌝ }
+{
+    answer[0] = three.said;
+    answer[1] = three.first;
+    answer[2] = three.second;
+}
+
+// Writes the words of a configuration.
+pub fn put_words(words: &mut [i64], configuration: Configuration)
+    requires { ⌜ 64 ≤ length (now words) ⌝ }
+    ensures { λ r. ⌜ now (words .exit) ≡ written (wordNumbers configuration) (now (words .entry)) ⌝ }
+{
+    let mut i: usize = 0;
+    while i < 64 {
+        let w = configuration.words[i];
+        let number = w.0;
+        words[i] = number;
+        i += 1;
+    }
+}
+
+// Writes the six numbers of a constraint.
+fn put_record(numbers: &mut [u64], at: usize, constraint: Constraint)
+    requires { ⌜ at + 6 ≤ length (now numbers) ⌝ }
+    ensures { λ r. ⌜ now (numbers .exit) ≡ sets (now (numbers .entry)) at (recordNumbers (constraint ∷ [])) ⌝ }
+{
+    let kind = constraint.kind;
+    let parameter = constraint.parameter;
+    let line = constraint.line;
+    numbers[at] = kind_number(kind);
+    numbers[at + 1] = constraint.defined as u64;
+    numbers[at + 2] = constraint.first as u64;
+    numbers[at + 3] = constraint.second as u64;
+    numbers[at + 4] = parameter.0 as u64;
+    numbers[at + 5] = line.0 as u64;
+}
+
+// Writes the records of a table.
+pub fn put_records(numbers: &mut [u64], records: [Constraint; 64])
+    requires { ⌜ 384 ≤ length (now numbers) ⌝ }
+    ensures { λ r. ⌜ now (numbers .exit) ≡ written (recordNumbers records) (now (numbers .entry)) ⌝ }
+{
+    let mut i: usize = 0;
+    while i < 64 {
+        put_record(numbers, 6 * i, records[i]);
+        i += 1;
+    }
+}
+
+// Writes where names stand.
+pub fn put_names(numbers: &mut [u64], spans: [Span; 32])
+    requires { ⌜ 64 ≤ length (now numbers) ⌝ }
+    ensures { λ r. ⌜ now (numbers .exit) ≡ written (nameNumbers spans) (now (numbers .entry)) ⌝ }
+{
+    let mut i: usize = 0;
+    while i < 32 {
+        let span = spans[i];
+        numbers[2 * i] = span.start as u64;
+        numbers[2 * i + 1] = span.end as u64;
+        i += 1;
+    }
+}
+
+// The configuration with the first 64 words.
+pub fn configuration_of(words: &[i64]) -> Configuration
+    requires { ⌜ 64 ≤ length (now words) ⌝ }
+    ensures { λ r. ⌜ r ≡ configurationOf (now (words .entry)) ⌝ }
+{
+    let mut read = [Word(0); 64];
+    let mut i: usize = 0;
+    while i < 64 {
+        read[i] = Word(words[i]);
+        i += 1;
+    }
+    Configuration { words: read }
+}

@@ -1,0 +1,190 @@
+// Kinds, verdicts and answers as numbers.
+use super::Three;
+use constraint::Definition;
+use constraint::Kind;
+use constraint::Relation;
+use constraint::SamePlace;
+use limit::Refusal;
+use monitor::StepAnswer;
+use monitor::Verdict;
+use table::Outcome;
+ghost use mathlib.Core.Path.{_≡_};
+ghost use Rattle.limit.specs.Limit.{numberOf};
+ghost use Rattle.constraint.specs.SamePlace as place;
+ghost use Rattle.constraint.specs.declared.Kind.the-variants as kinds;
+ghost use Rattle.table.specs.Reader as reader;
+ghost use Rattle.monitor.specs.Run as run;
+ghost use Rattle.monitor.specs.Single as single;
+ghost use Rattle.monitor_c.specs.Numbers.{atMost, kindNumber, kindOf, three, ofRun, ofTable, ofStep, ofPlace};
+
+// n, or the most that is let pass.
+pub fn at_most(most: u64, n: u64) -> u64
+    ensures { λ r. ⌜ r ≡ atMost most n ⌝ }
+{
+    if n <= most {
+        return n;
+    }
+    most
+}
+
+fn relation_number(relation: Relation) -> u64
+    ensures { λ r. ⌜ r ≡ kindNumber (kinds.Relates relation) ⌝ }
+{
+    match relation {
+        Relation::Coincides => 1,
+        Relation::Excludes => 2,
+        Relation::SubClock => 3,
+        Relation::StrictlyPrecedes => 4,
+        Relation::Precedes => 5,
+    }
+}
+
+fn definition_number(definition: Definition) -> u64
+    ensures { λ r. ⌜ r ≡ kindNumber (kinds.Defines definition) ⌝ }
+{
+    match definition {
+        Definition::Union => 6,
+        Definition::Inter => 7,
+        Definition::Lub => 8,
+        Definition::Glb => 9,
+        Definition::Await => 10,
+        Definition::StrictlySampled => 11,
+        Definition::Sampled => 12,
+        Definition::Upto => 13,
+    }
+}
+
+// The number of a kind.
+pub fn kind_number(kind: Kind) -> u64
+    ensures { λ r. ⌜ r ≡ kindNumber kind ⌝ }
+{
+    match kind {
+        Kind::Empty => 0,
+        Kind::Relates(relation) => relation_number(relation),
+        Kind::Defines(definition) => definition_number(definition),
+    }
+}
+
+// The kind with a number, empty where no kind has it.
+pub fn kind_of(n: u64) -> Kind
+    ensures { λ r. ⌜ r ≡ kindOf n ⌝ }
+{
+    if 13 < n {
+        return Kind::Empty;
+    }
+    if n == 1 {
+        return Kind::Relates(Relation::Coincides);
+    }
+    if n == 2 {
+        return Kind::Relates(Relation::Excludes);
+    }
+    if n == 3 {
+        return Kind::Relates(Relation::SubClock);
+    }
+    if n == 4 {
+        return Kind::Relates(Relation::StrictlyPrecedes);
+    }
+    if n == 5 {
+        return Kind::Relates(Relation::Precedes);
+    }
+    if n == 6 {
+        return Kind::Defines(Definition::Union);
+    }
+    if n == 7 {
+        return Kind::Defines(Definition::Inter);
+    }
+    if n == 8 {
+        return Kind::Defines(Definition::Lub);
+    }
+    if n == 9 {
+        return Kind::Defines(Definition::Glb);
+    }
+    if n == 10 {
+        return Kind::Defines(Definition::Await);
+    }
+    if n == 11 {
+        return Kind::Defines(Definition::StrictlySampled);
+    }
+    if n == 12 {
+        return Kind::Defines(Definition::Sampled);
+    }
+    if n == 13 {
+        return Kind::Defines(Definition::Upto);
+    }
+    Kind::Empty
+}
+
+fn said(n: u64) -> Three
+    ensures { λ r. ⌜ r ≡ three n 0 0 ⌝ }
+{
+    Three {
+        said: n,
+        first: 0,
+        second: 0,
+    }
+}
+
+fn violated(at: u64, time: u64) -> Three
+    ensures { λ r. ⌜ r ≡ three 1 at time ⌝ }
+{
+    Three {
+        said: 1,
+        first: at,
+        second: time,
+    }
+}
+
+fn refused(refusal: Refusal) -> Three
+    ensures { λ r. ⌜ r ≡ three 2 (numberOf (refusal .limit)) (refusal .place .0) ⌝ }
+{
+    let limit = refusal.limit;
+    let place = refusal.place;
+    Three {
+        said: 2,
+        first: limit::number(limit) as u64,
+        second: place.0 as u64,
+    }
+}
+
+// The verdict of a run.
+pub fn verdict_numbers(verdict: Verdict) -> Three
+    ensures { λ r. ⌜ r ≡ ofRun (run.said verdict) ⌝ }
+{
+    match verdict {
+        Verdict::Accepted => said(0),
+        Verdict::Violated(line, time) => violated(line.0 as u64, time.0),
+        Verdict::Refused(refusal) => refused(refusal),
+    }
+}
+
+// Whether a table was read.
+pub fn table_numbers(outcome: Outcome) -> Three
+    ensures { λ r. ⌜ r ≡ ofTable (reader.said outcome) ⌝ }
+{
+    match outcome {
+        Outcome::Read => said(0),
+        Outcome::Refused(refusal) => refused(refusal),
+    }
+}
+
+// What a single step answers.
+pub fn step_numbers(answer: StepAnswer) -> Three
+    ensures { λ r. ⌜ r ≡ ofStep (single.stepSaid answer) ⌝ }
+{
+    match answer {
+        StepAnswer::Accepted => said(0),
+        StepAnswer::Violated(record) => violated(record.0 as u64, 0),
+        StepAnswer::Refused(refusal) => refused(refusal),
+    }
+}
+
+// What the same-place question answers.
+pub fn place_numbers(answer: SamePlace) -> Three
+    ensures { λ r. ⌜ r ≡ ofPlace (place.answer answer) ⌝ }
+{
+    match answer {
+        SamePlace::Refused(refusal) => refused(refusal),
+        SamePlace::Same => said(0),
+        SamePlace::Different => said(1),
+    }
+}

@@ -1,0 +1,66 @@
+// Records as they are handed in: six numbers each.
+use super::numbers::at_most;
+use super::numbers::kind_of;
+use constraint::Constraint;
+use constraint::Parameter;
+use limit::Place;
+ghost use mathlib.Core.Path.{_≡_};
+ghost use Prim.Native.Nat.{_+_, _≤_};
+ghost use lib.ListN.{length, replicate};
+ghost use lib.Seq.{sets};
+ghost use Rattle.constraint.specs.Lists.{empty};
+ghost use Rattle.monitor_c.specs.Numbers.{clockOf, kindsKnown, recordOf, recordsOf, sixAt};
+
+// Whether every record's kind is one.
+pub fn kinds_known(numbers: &[u64]) -> bool
+    ensures { λ r. ⌜ r ≡ kindsKnown (now (numbers .entry)) ⌝ }
+{
+    let mut at: usize = 0;
+    while at + 6 <= numbers.len() {
+        if 13 < numbers[at] {
+            return false;
+        }
+        at += 6;
+    }
+    true
+}
+
+// The number of a clock, or of clocks; one above 255 counts as 255.
+pub fn clock_of(n: u64) -> u8
+    ensures { λ r. ⌜ r ≡ clockOf n ⌝ }
+{
+    at_most(255, n) as u8
+}
+
+// The record whose six numbers begin at an offset.
+fn record_at(numbers: &[u64], at: usize) -> Constraint
+    requires { ⌜ at + 6 ≤ length (now numbers) ⌝ }
+    ensures { λ r. ⌜ r ≡ recordOf (sixAt (now (numbers .entry)) at) ⌝ }
+{
+    Constraint {
+        kind: kind_of(numbers[at]),
+        defined: clock_of(numbers[at + 1]),
+        first: clock_of(numbers[at + 2]),
+        second: clock_of(numbers[at + 3]),
+        parameter: Parameter(at_most(4_294_967_295, numbers[at + 4]) as u32),
+        line: Place(numbers[at + 5] as usize),
+    }
+}
+
+// The first 66 records, empty behind the last.
+pub fn records_of(numbers: &[u64]) -> [Constraint; 66]
+    ensures { λ r. ⌜ r ≡ sets (replicate 66 empty) 0 (recordsOf (now (numbers .entry))) ⌝ }
+{
+    let mut records = [constraint::empty(); 66];
+    let mut at: usize = 0;
+    let mut i: usize = 0;
+    while i < 66 {
+        if numbers.len() < at + 6 {
+            return records;
+        }
+        records[i] = record_at(numbers, at);
+        at += 6;
+        i += 1;
+    }
+    records
+}

@@ -1,0 +1,118 @@
+/* The checker for C: a table of clock constraints and a recording of ticks are read and judged by code that is proved to meet its
+ * contract (crates/monitor_c). Numbers come in and go out in lists, which the caller owns.
+ *
+ * Every call returns a status. CCSL_DONE: the answer was written. Any other: a list that was handed in has not the shape that the call
+ * asks for, and nothing was written.
+ *
+ * A pointer is never NULL, also where its length is 0. A list that a call writes overlaps no other list of the same call. Lengths count
+ * elements. Of a list that is longer than the call needs, the rest is left alone.
+ *
+ * A table's text and a recording may hold any bytes. So may every number be any number: what breaks a limit is refused, with the limit's
+ * number and place (docs/refusals.md). */
+#ifndef CCSL_MONITOR_H
+#define CCSL_MONITOR_H
+
+#include <stddef.h>
+#include <stdint.h>
+
+#ifdef __cplusplus
+extern "C" {
+#endif
+
+/* What a call returns. The checks go in this order. */
+enum {
+    CCSL_DONE = 0,
+    CCSL_ANSWER_SHORT = 1,   /* `answer` has fewer numbers than the call writes */
+    CCSL_WORDS_SHORT = 2,    /* a configuration has fewer than CCSL_WORDS words */
+    CCSL_RECORDS_SHORT = 3,  /* ccsl_read_table: `records` has fewer than CCSL_RECORDS * CCSL_RECORD numbers */
+    CCSL_NAMES_SHORT = 4,    /* ccsl_read_table: `names` has fewer than CCSL_CLOCKS * 2 numbers */
+    CCSL_RECORDS_RAGGED = 5, /* the numbers of `records` do not come in sixes */
+    CCSL_KIND_UNKNOWN = 6    /* a record's kind is above CCSL_UPTO */
+};
+
+/* The first number of every answer. */
+enum {
+    CCSL_ACCEPTED = 0, /* of ccsl_read_table: the table was read; of ccsl_same_place: the same place */
+    CCSL_VIOLATED = 1, /* of ccsl_same_place: different places */
+    CCSL_REFUSED = 2
+};
+
+/* Sizes of lists. */
+enum {
+    CCSL_WORDS = 64,      /* words of a configuration: one a record, in table order, the rest 0 */
+    CCSL_RECORDS = 64,    /* records of a table */
+    CCSL_RECORD = 6,      /* numbers of a record: kind, c, a, b, n, line */
+    CCSL_CLOCKS = 32,     /* clocks of a table */
+    CCSL_RUN_ANSWER = 5,  /* numbers of the answers */
+    CCSL_READ_ANSWER = 5,
+    CCSL_STEP_ANSWER = 3,
+    CCSL_PLACE_ANSWER = 3
+};
+
+/* The kind of a record. A record is six numbers: its kind; the numbers of the clocks c, a and b; the number n of an await; the table line.
+ * What a kind does not name is free: c of a relation, b of an await, n of all others, the line, everything of an empty record. A clock
+ * number above 255 counts as 255, an n above 2^32 - 1 as 2^32 - 1; both are refused where the kind names them. */
+enum {
+    CCSL_EMPTY = 0,
+    CCSL_COINCIDES = 1,         /* a = b */
+    CCSL_EXCLUDES = 2,          /* a # b */
+    CCSL_SUB_CLOCK = 3,         /* a isSubClockOf b */
+    CCSL_STRICTLY_PRECEDES = 4, /* a strictly precedes b */
+    CCSL_PRECEDES = 5,          /* a precedes b */
+    CCSL_UNION = 6,             /* c clockDef a clockUnion b */
+    CCSL_INTER = 7,             /* c clockDef a clockInter b */
+    CCSL_LUB = 8,               /* c clockDef a lub b */
+    CCSL_GLB = 9,               /* c clockDef a glb b */
+    CCSL_AWAIT = 10,            /* c clockDef await n a */
+    CCSL_STRICTLY_SAMPLED = 11, /* c clockDef a strictly sampled b */
+    CCSL_SAMPLED = 12,          /* c clockDef a sampled b */
+    CCSL_UPTO = 13              /* c clockDef a upto b */
+};
+
+/* Judges a recording by a table.
+ * answer, 5 numbers: CCSL_ACCEPTED, 0, 0; or CCSL_VIOLATED, the table line, the recorded time; or CCSL_REFUSED, the limit's number, the
+ * place; then the number of accepted steps, and the number of constraints, 0 where the table was refused.
+ * words, 64 words: the configuration after the accepted steps.
+ * CCSL_ANSWER_SHORT, CCSL_WORDS_SHORT. */
+uint32_t ccsl_run(const uint8_t *table, size_t table_len,
+                  const uint8_t *recording, size_t recording_len,
+                  uint64_t *answer, size_t answer_len,
+                  int64_t *words, size_t words_len);
+
+/* Reads a table.
+ * answer, 5 numbers: CCSL_ACCEPTED, 0, 0; or CCSL_REFUSED, the limit's number, the line; then the number of constraints and the number of
+ * clocks, both 0 where the table was refused.
+ * records, 64 records of 6 numbers in table order; those behind the last are empty, with six zeros.
+ * names, 32 pairs in the order of the clocks' numbers: the offsets in the text at which the clock's name starts and ends where it first
+ * stands; zeros behind the last.
+ * CCSL_ANSWER_SHORT, CCSL_RECORDS_SHORT, CCSL_NAMES_SHORT. */
+uint32_t ccsl_read_table(const uint8_t *text, size_t text_len,
+                         uint64_t *answer, size_t answer_len,
+                         uint64_t *records, size_t records_len,
+                         uint64_t *names, size_t names_len);
+
+/* One step on a configuration, which is moved where it stands if the step is accepted, and left alone else. Clock k ticks where bit k of
+ * `ticks` is 1. records_len counts numbers, six a record. A clock count above 255 counts as 255, which is refused.
+ * answer, 3 numbers: CCSL_ACCEPTED, 0, 0; or CCSL_VIOLATED, the record from 1, 0; or CCSL_REFUSED, the limit's number, the place.
+ * CCSL_ANSWER_SHORT, CCSL_WORDS_SHORT, CCSL_RECORDS_RAGGED, CCSL_KIND_UNKNOWN. Of more than 64 records the first 66 are looked at, and
+ * the answer is refusal 59. */
+uint32_t ccsl_step(const uint64_t *records, size_t records_len,
+                   uint32_t clocks,
+                   int64_t *words, size_t words_len,
+                   uint32_t ticks,
+                   uint64_t *answer, size_t answer_len);
+
+/* Whether two configurations stand at the same place: no record, judged by itself, tells them apart by any continuation.
+ * answer, 3 numbers: CCSL_ACCEPTED, 0, 0, the same; or CCSL_VIOLATED, 0, 0, different; or CCSL_REFUSED, the limit's number, the place.
+ * CCSL_ANSWER_SHORT, CCSL_WORDS_SHORT, CCSL_RECORDS_RAGGED, CCSL_KIND_UNKNOWN, as in ccsl_step. */
+uint32_t ccsl_same_place(const uint64_t *records, size_t records_len,
+                         uint32_t clocks,
+                         const int64_t *first, size_t first_len,
+                         const int64_t *second, size_t second_len,
+                         uint64_t *answer, size_t answer_len);
+
+#ifdef __cplusplus
+}
+#endif
+
+#endif
