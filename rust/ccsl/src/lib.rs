@@ -1,0 +1,310 @@
+//! Safe calls of the proved checker of clock constraints, `libmonitor_c.a`.
+//!
+//! A table of constraints and a recording of ticks go in, a verdict comes out:
+//!
+//! ```
+//! let table = b"a precedes b";
+//! let recording = b"$var event 1 ! a $end $var event 1 % b $end $enddefinitions $end
+//!     #0 1! #4 1% #7 1%";
+//! let report = ccsl::run(table, recording);
+//! assert_eq!(report.to_string(), "violated 1 7\nsteps 2\nconfig 0\n");
+//! ```
+
+pub mod raw;
+
+use std::fmt;
+use std::ops::Range;
+
+/// Words of a configuration.
+pub const WORDS: usize = 64;
+
+/// One word a record, in table order, the rest 0.
+pub type Configuration = [i64; WORDS];
+
+/// The form of a constraint. The order is that of the header's numbers.
+#[derive(Clone, Copy, Debug, PartialEq, Eq, Hash)]
+pub enum Kind {
+    /// A slot without a constraint: names no clock, always holds.
+    Empty,
+    /// `a = b`: both or neither tick.
+    Coincides,
+    /// `a # b`: not both.
+    Excludes,
+    /// `a isSubClockOf b`: a only with b.
+    SubClock,
+    /// `a strictly precedes b`: b only after a step with its a.
+    StrictlyPrecedes,
+    /// `a precedes b`: b not before its a.
+    Precedes,
+    /// `c clockDef a clockUnion b`.
+    Union,
+    /// `c clockDef a clockInter b`.
+    Inter,
+    /// `c clockDef a lub b`: c with the slower of both.
+    Lub,
+    /// `c clockDef a glb b`: c with the faster of both.
+    Glb,
+    /// `c clockDef await n a`: c with the n-th a, once.
+    Await,
+    /// `c clockDef a strictly sampled b`: c with the first b after the first a, once.
+    StrictlySampled,
+    /// `c clockDef a sampled b`: c with the first b at or after the first a, once.
+    Sampled,
+    /// `c clockDef a upto b`: c with a until b ticks.
+    Upto,
+}
+
+/// All kinds; the place of a kind is its number in the header.
+pub const KINDS: [Kind; 14] = [
+    Kind::Empty,
+    Kind::Coincides,
+    Kind::Excludes,
+    Kind::SubClock,
+    Kind::StrictlyPrecedes,
+    Kind::Precedes,
+    Kind::Union,
+    Kind::Inter,
+    Kind::Lub,
+    Kind::Glb,
+    Kind::Await,
+    Kind::StrictlySampled,
+    Kind::Sampled,
+    Kind::Upto,
+];
+
+/// One constraint. What its kind does not name is free.
+#[derive(Clone, Copy, Debug, PartialEq, Eq, Hash)]
+pub struct Record {
+    pub kind: Kind,
+    /// The number of the clock c, which a definition defines.
+    pub defined: u64,
+    /// The number of the clock a.
+    pub first: u64,
+    /// The number of the clock b.
+    pub second: u64,
+    /// The number n of an await.
+    pub number: u64,
+    /// The line of the table, from 1.
+    pub line: u64,
+}
+
+/// A clock of a table.
+#[derive(Clone, Debug, PartialEq, Eq)]
+pub struct Clock {
+    pub name: String,
+    /// Where in the text the name first stands.
+    pub place: Range<usize>,
+}
+
+/// A table that was read.
+#[derive(Clone, Debug, PartialEq, Eq)]
+pub struct Table {
+    pub records: Vec<Record>,
+    /// In the order of the clocks' numbers.
+    pub clocks: Vec<Clock>,
+}
+
+/// A limit that the input breaks: its number, and the place at which it does.
+#[derive(Clone, Copy, Debug, PartialEq, Eq, Hash)]
+pub struct Refusal {
+    pub number: u64,
+    pub place: u64,
+}
+
+/// How a run ended.
+#[derive(Clone, Copy, Debug, PartialEq, Eq)]
+pub enum Verdict {
+    Accepted,
+    /// The table line that the recording breaks, and the recorded time of the step that breaks it.
+    Violated {
+        line: u64,
+        time: u64,
+    },
+    Refused(Refusal),
+}
+
+/// What a run gives. It is printed as three lines.
+#[derive(Clone, Debug, PartialEq, Eq)]
+pub struct Report {
+    pub verdict: Verdict,
+    /// The number of accepted steps.
+    pub steps: u64,
+    /// The number of constraints, 0 where the table was refused.
+    pub constraints: usize,
+    /// The configuration after the accepted steps.
+    pub configuration: Configuration,
+}
+
+/// How a single step ended.
+#[derive(Clone, Copy, Debug, PartialEq, Eq)]
+pub enum StepAnswer {
+    Accepted,
+    /// The first record that fails, from 1.
+    Violated(u64),
+    Refused(Refusal),
+}
+
+/// Whether two configurations stand at the same place.
+#[derive(Clone, Copy, Debug, PartialEq, Eq)]
+pub enum SamePlace {
+    Same,
+    Different,
+    Refused(Refusal),
+}
+
+/// Reads a table.
+pub fn read_table(text: &[u8]) -> Result<Table, Refusal> {
+    let mut answer = [0; raw::READ_ANSWER];
+    let mut records = [0; raw::RECORDS * raw::RECORD];
+    let mut names = [0; raw::CLOCKS * 2];
+    done(raw::read_table(text, &mut answer, &mut records, &mut names));
+    let [outcome, number, place, constraints, clocks] = answer;
+    if outcome != 0 {
+        return Err(Refusal { number, place });
+    }
+    Ok(Table {
+        records: records
+            .chunks_exact(raw::RECORD)
+            .take(constraints as usize)
+            .map(record)
+            .collect(),
+        clocks: names
+            .chunks_exact(2)
+            .take(clocks as usize)
+            .map(|ends| clock(text, ends))
+            .collect(),
+    })
+}
+
+/// Judges a recording by a table.
+pub fn run(table: &[u8], recording: &[u8]) -> Report {
+    let mut answer = [0; raw::RUN_ANSWER];
+    let mut configuration = [0; WORDS];
+    done(raw::run(table, recording, &mut answer, &mut configuration));
+    let [outcome, first, second, steps, constraints] = answer;
+    let verdict = match outcome {
+        0 => Verdict::Accepted,
+        1 => Verdict::Violated {
+            line: first,
+            time: second,
+        },
+        _ => Verdict::Refused(Refusal {
+            number: first,
+            place: second,
+        }),
+    };
+    Report {
+        verdict,
+        steps,
+        constraints: constraints as usize,
+        configuration,
+    }
+}
+
+/// One step: clock k ticks where bit k of `ticks` is 1. Moves the configuration if and only if the
+/// step is accepted.
+pub fn step(
+    records: &[Record],
+    clocks: u32,
+    configuration: &mut Configuration,
+    ticks: u32,
+) -> StepAnswer {
+    let mut answer = [0; raw::STEP_ANSWER];
+    done(raw::step(
+        &numbers(records),
+        clocks,
+        configuration,
+        ticks,
+        &mut answer,
+    ));
+    match answer {
+        [0, _, _] => StepAnswer::Accepted,
+        [1, record, _] => StepAnswer::Violated(record),
+        [_, number, place] => StepAnswer::Refused(Refusal { number, place }),
+    }
+}
+
+/// Whether two configurations stand at the same place: no record, judged by itself, tells them
+/// apart by any continuation.
+pub fn same_place(
+    records: &[Record],
+    clocks: u32,
+    first: &Configuration,
+    second: &Configuration,
+) -> SamePlace {
+    let mut answer = [0; raw::PLACE_ANSWER];
+    done(raw::same_place(
+        &numbers(records),
+        clocks,
+        first,
+        second,
+        &mut answer,
+    ));
+    match answer {
+        [0, _, _] => SamePlace::Same,
+        [1, _, _] => SamePlace::Different,
+        [_, number, place] => SamePlace::Refused(Refusal { number, place }),
+    }
+}
+
+/// Records as the raw calls take them: six numbers each.
+pub fn numbers(records: &[Record]) -> Vec<u64> {
+    let mut list = Vec::with_capacity(records.len() * raw::RECORD);
+    for r in records {
+        list.extend([
+            r.kind as u64,
+            r.defined,
+            r.first,
+            r.second,
+            r.number,
+            r.line,
+        ]);
+    }
+    list
+}
+
+/// One record from its six numbers.
+fn record(numbers: &[u64]) -> Record {
+    Record {
+        kind: KINDS[numbers[0] as usize],
+        defined: numbers[1],
+        first: numbers[2],
+        second: numbers[3],
+        number: numbers[4],
+        line: numbers[5],
+    }
+}
+
+/// One clock from the two ends of its name.
+fn clock(text: &[u8], ends: &[u64]) -> Clock {
+    let place = ends[0] as usize..ends[1] as usize;
+    Clock {
+        name: String::from_utf8_lossy(&text[place.clone()]).into_owned(),
+        place,
+    }
+}
+
+/// The lists that this crate hands in always have the right shape.
+fn done(status: u32) {
+    assert_eq!(status, raw::DONE, "a list of the wrong shape was handed in");
+}
+
+impl fmt::Display for Verdict {
+    fn fmt(&self, f: &mut fmt::Formatter<'_>) -> fmt::Result {
+        match self {
+            Verdict::Accepted => write!(f, "accepted"),
+            Verdict::Violated { line, time } => write!(f, "violated {line} {time}"),
+            Verdict::Refused(Refusal { number, place }) => write!(f, "refused {number} {place}"),
+        }
+    }
+}
+
+impl fmt::Display for Report {
+    fn fmt(&self, f: &mut fmt::Formatter<'_>) -> fmt::Result {
+        write!(f, "{}\nsteps {}\nconfig", self.verdict, self.steps)?;
+        for word in self.configuration.iter().take(self.constraints) {
+            write!(f, " {word}")?;
+        }
+        writeln!(f)
+    }
+}

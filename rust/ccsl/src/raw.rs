@@ -1,0 +1,166 @@
+//! The calls of `include/ccsl_monitor.h` on lent lists: the only place of this crate with `unsafe`.
+//!
+//! Each function here takes every list, of any length and with any numbers in it, and returns the
+//! header's status.
+
+mod header {
+    extern "C" {
+        pub fn ccsl_run(
+            table: *const u8,
+            table_len: usize,
+            recording: *const u8,
+            recording_len: usize,
+            answer: *mut u64,
+            answer_len: usize,
+            words: *mut i64,
+            words_len: usize,
+        ) -> u32;
+
+        pub fn ccsl_read_table(
+            text: *const u8,
+            text_len: usize,
+            answer: *mut u64,
+            answer_len: usize,
+            records: *mut u64,
+            records_len: usize,
+            names: *mut u64,
+            names_len: usize,
+        ) -> u32;
+
+        pub fn ccsl_step(
+            records: *const u64,
+            records_len: usize,
+            clocks: u32,
+            words: *mut i64,
+            words_len: usize,
+            ticks: u32,
+            answer: *mut u64,
+            answer_len: usize,
+        ) -> u32;
+
+        pub fn ccsl_same_place(
+            records: *const u64,
+            records_len: usize,
+            clocks: u32,
+            first: *const i64,
+            first_len: usize,
+            second: *const i64,
+            second_len: usize,
+            answer: *mut u64,
+            answer_len: usize,
+        ) -> u32;
+    }
+}
+
+/// The answer was written.
+pub const DONE: u32 = 0;
+/// `answer` has fewer numbers than the call writes.
+pub const ANSWER_SHORT: u32 = 1;
+/// A configuration has fewer than 64 words.
+pub const WORDS_SHORT: u32 = 2;
+/// [`read_table`]: `records` has fewer than 64 · 6 numbers.
+pub const RECORDS_SHORT: u32 = 3;
+/// [`read_table`]: `names` has fewer than 32 · 2 numbers.
+pub const NAMES_SHORT: u32 = 4;
+/// The numbers of `records` do not come in sixes.
+pub const RECORDS_RAGGED: u32 = 5;
+/// A record's kind is above that of `upto`.
+pub const KIND_UNKNOWN: u32 = 6;
+
+/// Numbers that [`run`] writes into `answer`.
+pub const RUN_ANSWER: usize = 5;
+/// Numbers that [`read_table`] writes into `answer`.
+pub const READ_ANSWER: usize = 5;
+/// Numbers that [`step`] writes into `answer`.
+pub const STEP_ANSWER: usize = 3;
+/// Numbers that [`same_place`] writes into `answer`.
+pub const PLACE_ANSWER: usize = 3;
+/// Numbers of a record: kind, c, a, b, n, line.
+pub const RECORD: usize = 6;
+/// Records that [`read_table`] writes.
+pub const RECORDS: usize = 64;
+/// Pairs that [`read_table`] writes into `names`.
+pub const CLOCKS: usize = 32;
+
+/// `ccsl_run`.
+pub fn run(table: &[u8], recording: &[u8], answer: &mut [u64], words: &mut [i64]) -> u32 {
+    // SAFETY: each pointer comes from a slice, so it is not null and valid for its length, and
+    // those that are written come from `&mut` slices, which overlap nothing. The call writes inside
+    // these lengths and keeps no pointer.
+    unsafe {
+        header::ccsl_run(
+            table.as_ptr(),
+            table.len(),
+            recording.as_ptr(),
+            recording.len(),
+            answer.as_mut_ptr(),
+            answer.len(),
+            words.as_mut_ptr(),
+            words.len(),
+        )
+    }
+}
+
+/// `ccsl_read_table`.
+pub fn read_table(text: &[u8], answer: &mut [u64], records: &mut [u64], names: &mut [u64]) -> u32 {
+    // SAFETY: as in `run`.
+    unsafe {
+        header::ccsl_read_table(
+            text.as_ptr(),
+            text.len(),
+            answer.as_mut_ptr(),
+            answer.len(),
+            records.as_mut_ptr(),
+            records.len(),
+            names.as_mut_ptr(),
+            names.len(),
+        )
+    }
+}
+
+/// `ccsl_step`.
+pub fn step(
+    records: &[u64],
+    clocks: u32,
+    words: &mut [i64],
+    ticks: u32,
+    answer: &mut [u64],
+) -> u32 {
+    // SAFETY: as in `run`.
+    unsafe {
+        header::ccsl_step(
+            records.as_ptr(),
+            records.len(),
+            clocks,
+            words.as_mut_ptr(),
+            words.len(),
+            ticks,
+            answer.as_mut_ptr(),
+            answer.len(),
+        )
+    }
+}
+
+/// `ccsl_same_place`.
+pub fn same_place(
+    records: &[u64],
+    clocks: u32,
+    first: &[i64],
+    second: &[i64],
+    answer: &mut [u64],
+) -> u32 {
+    // SAFETY: as in `run`; `first` and `second` are only read, and may be the same list.
+    unsafe {
+        header::ccsl_same_place(
+            records.as_ptr(),
+            records.len(),
+            clocks,
+            first.as_ptr(),
+            first.len(),
+            second.as_ptr(),
+            second.len(),
+            answer.as_mut_ptr(),
+            answer.len(),
+        )
+    }
+}

@@ -1,0 +1,373 @@
+//! The calls on small inputs whose answers document 01 and the header give.
+
+use ccsl::{raw, Clock, Kind, Record, Refusal, SamePlace, StepAnswer, Verdict, WORDS};
+
+const TABLE: &[u8] = b"req strictly precedes ack\ndone clockDef await 2 ack\n";
+const RECORDING: &[u8] = b"$var event 1 ! req $end $var event 1 \" ack $end \
+    $var event 1 % done $end $enddefinitions $end \
+    #0 1! #3 #5 1\" 1! #8 1\" 1% #9 1! 1\"";
+
+/// A number that no call writes.
+const LEFT: u64 = 0xAAAA_AAAA_AAAA_AAAA;
+const LEFT_WORD: i64 = -0x5555_5555_5555_5556;
+
+fn relation(kind: Kind, first: u64, second: u64) -> Record {
+    Record {
+        kind,
+        defined: 0,
+        first,
+        second,
+        number: 0,
+        line: 1,
+    }
+}
+
+fn configuration(words: &[i64]) -> [i64; WORDS] {
+    let mut all = [0; WORDS];
+    all[..words.len()].copy_from_slice(words);
+    all
+}
+
+#[test]
+fn the_example_of_document_01_is_printed() {
+    assert_eq!(
+        ccsl::run(TABLE, RECORDING).to_string(),
+        "violated 1 9\nsteps 4\nconfig 0 0\n"
+    );
+}
+
+#[test]
+fn the_example_is_read() {
+    let table = ccsl::read_table(TABLE).unwrap();
+    assert_eq!(
+        table.records,
+        [
+            Record {
+                kind: Kind::StrictlyPrecedes,
+                defined: 0,
+                first: 0,
+                second: 1,
+                number: 0,
+                line: 1
+            },
+            Record {
+                kind: Kind::Await,
+                defined: 2,
+                first: 1,
+                second: 0,
+                number: 2,
+                line: 2
+            },
+        ]
+    );
+    let clock = |name: &str, place| Clock {
+        name: name.to_string(),
+        place,
+    };
+    assert_eq!(
+        table.clocks,
+        [
+            clock("req", 0..3),
+            clock("ack", 22..25),
+            clock("done", 26..30)
+        ]
+    );
+}
+
+#[test]
+fn empty_texts_are_accepted() {
+    let report = ccsl::run(b"", b"$enddefinitions $end");
+    assert_eq!(report.to_string(), "accepted\nsteps 0\nconfig\n");
+    assert_eq!(ccsl::read_table(b"").unwrap().records, []);
+    assert_eq!(
+        ccsl::run(b"", b"").verdict,
+        Verdict::Refused(Refusal {
+            number: 36,
+            place: 0
+        })
+    );
+}
+
+#[test]
+fn a_refused_table_prints_config_alone() {
+    assert_eq!(
+        ccsl::run(b"a = a", RECORDING).to_string(),
+        "refused 15 1\nsteps 0\nconfig\n"
+    );
+    assert_eq!(
+        ccsl::read_table(b"\na = a"),
+        Err(Refusal {
+            number: 15,
+            place: 2
+        })
+    );
+}
+
+#[test]
+fn a_step_moves_the_configuration_only_where_it_is_accepted() {
+    let records = [relation(Kind::Precedes, 0, 1)];
+    let mut words = configuration(&[0]);
+    assert_eq!(
+        ccsl::step(&records, 2, &mut words, 0b01),
+        StepAnswer::Accepted
+    );
+    assert_eq!(words, configuration(&[1]));
+    assert_eq!(
+        ccsl::step(&records, 2, &mut words, 0b10),
+        StepAnswer::Accepted
+    );
+    assert_eq!(
+        ccsl::step(&records, 2, &mut words, 0b10),
+        StepAnswer::Violated(1)
+    );
+    assert_eq!(words, configuration(&[0]));
+}
+
+#[test]
+fn a_word_at_its_million_stays_there() {
+    let records = [relation(Kind::Precedes, 0, 1)];
+    let mut words = configuration(&[1_000_000]);
+    assert_eq!(
+        ccsl::step(&records, 2, &mut words, 0b01),
+        StepAnswer::Refused(Refusal {
+            number: 51,
+            place: 1
+        })
+    );
+    assert_eq!(words, configuration(&[1_000_000]));
+    assert_eq!(
+        ccsl::step(&records, 2, &mut words, 0b11),
+        StepAnswer::Accepted
+    );
+    assert_eq!(words, configuration(&[1_000_000]));
+}
+
+#[test]
+fn places_are_the_same_or_different() {
+    let records = [relation(Kind::Precedes, 0, 1)];
+    let (zero, one) = (configuration(&[0]), configuration(&[1]));
+    assert_eq!(ccsl::same_place(&records, 2, &zero, &zero), SamePlace::Same);
+    assert_eq!(
+        ccsl::same_place(&records, 2, &zero, &one),
+        SamePlace::Different
+    );
+    let below = configuration(&[-1]);
+    assert_eq!(
+        ccsl::same_place(&records, 2, &zero, &below),
+        SamePlace::Refused(Refusal {
+            number: 60,
+            place: 1
+        })
+    );
+}
+
+#[test]
+fn no_records_and_no_clocks_accept_the_empty_step() {
+    let mut words = configuration(&[]);
+    assert_eq!(ccsl::step(&[], 0, &mut words, 0), StepAnswer::Accepted);
+    assert_eq!(
+        ccsl::step(&[], 0, &mut words, 1),
+        StepAnswer::Refused(Refusal {
+            number: 61,
+            place: 0
+        })
+    );
+    assert_eq!(
+        ccsl::step(&[], 33, &mut words, 0),
+        StepAnswer::Refused(Refusal {
+            number: 59,
+            place: 0
+        })
+    );
+    assert_eq!(
+        ccsl::same_place(&[], u32::MAX, &words, &words),
+        SamePlace::Refused(Refusal {
+            number: 59,
+            place: 0
+        })
+    );
+}
+
+#[test]
+fn over_64_records_are_refused_at_65() {
+    let given = configuration(&[i64::MIN, 7]);
+    for count in [65, 66, 67, 500] {
+        let records = vec![relation(Kind::Excludes, 0, 1); count];
+        let mut words = given;
+        assert_eq!(
+            ccsl::step(&records, 2, &mut words, 0),
+            StepAnswer::Refused(Refusal {
+                number: 59,
+                place: 65
+            })
+        );
+        assert_eq!(words, given);
+        assert_eq!(
+            ccsl::same_place(&records, 2, &given, &given),
+            SamePlace::Refused(Refusal {
+                number: 59,
+                place: 65
+            })
+        );
+    }
+    let mut records = vec![relation(Kind::Excludes, 0, 1); 65];
+    records[2].second = 0;
+    let mut words = given;
+    assert_eq!(
+        ccsl::step(&records, 2, &mut words, 0),
+        StepAnswer::Refused(Refusal {
+            number: 59,
+            place: 3
+        })
+    );
+    assert_eq!(words, given);
+}
+
+/// A list that a call may write, filled with numbers that none writes.
+fn left(length: usize) -> Vec<u64> {
+    vec![LEFT; length]
+}
+
+fn left_words(length: usize) -> Vec<i64> {
+    vec![LEFT_WORD; length]
+}
+
+#[test]
+fn too_short_a_list_for_a_run_is_told_and_nothing_written() {
+    for (answer, words, status) in [
+        (4, 64, raw::ANSWER_SHORT),
+        (0, 0, raw::ANSWER_SHORT),
+        (5, 63, raw::WORDS_SHORT),
+        (5, 0, raw::WORDS_SHORT),
+    ] {
+        let (mut a, mut w) = (left(answer), left_words(words));
+        assert_eq!(raw::run(TABLE, RECORDING, &mut a, &mut w), status);
+        assert_eq!((a, w), (left(answer), left_words(words)));
+    }
+}
+
+#[test]
+fn too_short_a_list_for_a_table_is_told_and_nothing_written() {
+    let cases = [
+        (4, 384, 64, raw::ANSWER_SHORT),
+        (4, 383, 63, raw::ANSWER_SHORT),
+        (5, 383, 64, raw::RECORDS_SHORT),
+        (5, 0, 0, raw::RECORDS_SHORT),
+        (5, 384, 63, raw::NAMES_SHORT),
+    ];
+    for (answer, records, names, status) in cases {
+        let (mut a, mut r, mut n) = (left(answer), left(records), left(names));
+        assert_eq!(raw::read_table(TABLE, &mut a, &mut r, &mut n), status);
+        assert_eq!((a, r, n), (left(answer), left(records), left(names)));
+    }
+}
+
+#[test]
+fn lists_of_a_wrong_shape_for_a_step_are_told_and_nothing_written() {
+    let good = [1, 0, 0, 1, 0, 1];
+    let unknown = [1, 0, 0, 1, 0, 1, 14, 0, 0, 1, 0, 2];
+    let cases: [(&[u64], usize, usize, u32); 9] = [
+        (&good, 2, 64, raw::ANSWER_SHORT),
+        (&unknown[..11], 0, 0, raw::ANSWER_SHORT),
+        (&good, 3, 63, raw::WORDS_SHORT),
+        (&unknown[..11], 3, 63, raw::WORDS_SHORT),
+        (&good[..5], 3, 64, raw::RECORDS_RAGGED),
+        (&good[..1], 3, 64, raw::RECORDS_RAGGED),
+        (&unknown[..11], 3, 64, raw::RECORDS_RAGGED),
+        (&unknown, 3, 64, raw::KIND_UNKNOWN),
+        (&[u64::MAX; 6], 3, 64, raw::KIND_UNKNOWN),
+    ];
+    for (records, answer, words, status) in cases {
+        let (mut a, mut w) = (left(answer), left_words(words));
+        assert_eq!(raw::step(records, 2, &mut w, 0, &mut a), status);
+        assert_eq!((&a, &w), (&left(answer), &left_words(words)));
+        assert_eq!(raw::same_place(records, 2, &w, &w, &mut a), status);
+        assert_eq!(a, left(answer));
+    }
+    let (mut a, w) = (left(3), left_words(64));
+    assert_eq!(
+        raw::same_place(&good, 2, &w, &w[..63], &mut a),
+        raw::WORDS_SHORT
+    );
+    assert_eq!(
+        raw::same_place(&good, 2, &w[..63], &w, &mut a),
+        raw::WORDS_SHORT
+    );
+    assert_eq!(a, left(3));
+}
+
+#[test]
+fn an_unknown_kind_is_told_before_a_refusal() {
+    let (mut a, mut w) = (left(3), left_words(64));
+    assert_eq!(
+        raw::step(&[14, 0, 0, 0, 0, 0], 99, &mut w, u32::MAX, &mut a),
+        raw::KIND_UNKNOWN
+    );
+    assert_eq!((a, w), (left(3), left_words(64)));
+}
+
+#[test]
+fn of_longer_lists_the_rest_is_left_alone() {
+    let (mut a, mut w) = (left(9), left_words(70));
+    assert_eq!(raw::run(TABLE, RECORDING, &mut a, &mut w), raw::DONE);
+    assert_eq!(a, [1, 1, 9, 4, 2, LEFT, LEFT, LEFT, LEFT]);
+    assert_eq!((&w[..64], &w[64..]), (&[0; 64][..], &[LEFT_WORD; 6][..]));
+
+    let (mut a, mut w) = (left(4), left_words(70));
+    w[..64].fill(0);
+    assert_eq!(
+        raw::step(&[4, 0, 0, 1, 0, 1], 2, &mut w, 1, &mut a),
+        raw::DONE
+    );
+    assert_eq!(a, [0, 0, 0, LEFT]);
+    assert_eq!((&w[..3], &w[64..]), (&[1, 0, 0][..], &[LEFT_WORD; 6][..]));
+
+    let mut a = left(4);
+    assert_eq!(
+        raw::same_place(&[4, 0, 0, 1, 0, 1], 2, &w, &w, &mut a),
+        raw::DONE
+    );
+    assert_eq!(a, [0, 0, 0, LEFT]);
+}
+
+#[test]
+fn a_table_that_is_read_fills_its_lists_with_zeros() {
+    let (mut a, mut r, mut n) = (left(6), left(390), left(66));
+    assert_eq!(raw::read_table(TABLE, &mut a, &mut r, &mut n), raw::DONE);
+    assert_eq!(a, [0, 0, 0, 2, 3, LEFT]);
+    assert_eq!(r[..12], [4, 0, 0, 1, 0, 1, 10, 2, 1, 0, 2, 2]);
+    assert_eq!((&r[12..384], &r[384..]), (&[0; 372][..], &[LEFT; 6][..]));
+    assert_eq!(n[..6], [0, 3, 22, 25, 26, 30]);
+    assert_eq!((&n[6..64], &n[64..]), (&[0; 58][..], &[LEFT; 2][..]));
+}
+
+#[test]
+fn a_refused_table_leaves_its_lists_empty() {
+    let (mut a, mut r, mut n) = (left(5), left(384), left(64));
+    assert_eq!(
+        raw::read_table(b"a = b\na # c\nb precedes", &mut a, &mut r, &mut n),
+        raw::DONE
+    );
+    assert_eq!(a, [2, 12, 3, 0, 0]);
+    assert_eq!((r, n), (vec![0; 384], vec![0; 64]));
+
+    let (mut a, mut w) = (left(5), left_words(64));
+    assert_eq!(
+        raw::run(b"a = b\na # c\nb precedes", RECORDING, &mut a, &mut w),
+        raw::DONE
+    );
+    assert_eq!(a, [2, 12, 3, 0, 0]);
+    assert_eq!(w, [0; 64]);
+}
+
+#[test]
+fn words_out_of_range_are_handed_back() {
+    let mut a = left(3);
+    let mut w = left_words(64);
+    assert_eq!(
+        raw::step(&[4, 0, 0, 1, 0, 1], 2, &mut w, 1, &mut a),
+        raw::DONE
+    );
+    assert_eq!(a, [2, 60, 1]);
+    assert_eq!(w, left_words(64));
+}

@@ -1,0 +1,267 @@
+//! The page of refusals for trainees, `docs/refusals.md`: each number has its heading, each block
+//! on it the answer that it states, and each number of a run its folder in `examples/refusals`.
+//!
+//! A block is fenced with ```` ```step ```` or ```` ```same-place ````, one item a line:
+//!
+//! - `clocks 2`
+//! - `record precedes c=0 a=0 b=1 n=0`
+//! - `words 1 0`, or `first 1 0` and `second 1 0`
+//! - `ticks 0 1`
+//! - `answer accepted`, `violated 1`, `same`, `different` or `refused 51 1`
+
+use ccsl::{Configuration, Kind, Record, Refusal, SamePlace, StepAnswer, KINDS, WORDS};
+use std::fs;
+use std::path::{Path, PathBuf};
+
+/// The numbers of a run, and those of a single step and the same-place question.
+const OF_A_RUN: [u64; 22] = [
+    10, 11, 12, 13, 14, 15, 16, 17, 18, 30, 31, 32, 33, 34, 35, 36, 37, 40, 41, 42, 43, 44,
+];
+const OF_A_CALL: [u64; 4] = [51, 59, 60, 61];
+
+/// The words for the kinds, in the order of [`KINDS`].
+const WORDS_OF_KINDS: [&str; 14] = [
+    "empty",
+    "coincides",
+    "excludes",
+    "sub-clock",
+    "strictly-precedes",
+    "precedes",
+    "union",
+    "inter",
+    "lub",
+    "glb",
+    "await",
+    "strictly-sampled",
+    "sampled",
+    "upto",
+];
+
+/// A block of the page.
+struct Block {
+    same_place: bool,
+    records: Vec<Record>,
+    clocks: u32,
+    /// Of `words` or `first`, and of `second`.
+    configurations: [Configuration; 2],
+    ticks: u32,
+    answer: String,
+}
+
+fn repository() -> PathBuf {
+    Path::new(env!("CARGO_MANIFEST_DIR")).join("../..")
+}
+
+fn page() -> String {
+    let path = repository().join("docs/refusals.md");
+    fs::read_to_string(&path).unwrap_or_else(|e| panic!("{}: {e}", path.display()))
+}
+
+/// The blocks of the page, each with the number of its first line.
+fn blocks(page: &str) -> Vec<(usize, Block)> {
+    let mut lines = page.lines().enumerate();
+    let mut found = Vec::new();
+    while let Some((number, line)) = lines.next() {
+        let same_place = line.trim() == "```same-place";
+        if same_place || line.trim() == "```step" {
+            let items: Vec<&str> = lines
+                .by_ref()
+                .map(|(_, line)| line.trim())
+                .take_while(|line| *line != "```")
+                .collect();
+            found.push((number + 1, block(same_place, &items, number + 1)));
+        }
+    }
+    found
+}
+
+fn block(same_place: bool, items: &[&str], at: usize) -> Block {
+    let mut block = Block {
+        same_place,
+        records: Vec::new(),
+        clocks: 0,
+        configurations: [[0; WORDS]; 2],
+        ticks: 0,
+        answer: String::new(),
+    };
+    for item in items.iter().filter(|item| !item.is_empty()) {
+        let (word, rest) = item.split_once(' ').unwrap_or((item, ""));
+        match word {
+            "clocks" => block.clocks = number(rest, at),
+            "record" => block.records.push(record(rest, at)),
+            "words" | "first" => block.configurations[0] = configuration(rest, at),
+            "second" => block.configurations[1] = configuration(rest, at),
+            "ticks" => {
+                block.ticks = rest
+                    .split_whitespace()
+                    .fold(0, |set, clock| set | 1 << number::<u32>(clock, at))
+            }
+            "answer" => block.answer = rest.split_whitespace().collect::<Vec<_>>().join(" "),
+            _ => panic!("line {at}: no such item: {item}"),
+        }
+    }
+    block
+}
+
+fn number<T: std::str::FromStr>(word: &str, at: usize) -> T {
+    word.trim()
+        .parse()
+        .unwrap_or_else(|_| panic!("line {at}: no number: {word}"))
+}
+
+fn configuration(words: &str, at: usize) -> Configuration {
+    let mut all = [0; WORDS];
+    for (place, word) in words.split_whitespace().enumerate() {
+        all[place] = number(word, at);
+    }
+    all
+}
+
+fn record(words: &str, at: usize) -> Record {
+    let mut words = words.split_whitespace();
+    let name = words.next().unwrap_or("");
+    let kind = WORDS_OF_KINDS
+        .iter()
+        .position(|k| *k == name)
+        .unwrap_or_else(|| panic!("line {at}: no such kind: {name}"));
+    let mut record = Record {
+        kind: KINDS[kind],
+        defined: 0,
+        first: 0,
+        second: 0,
+        number: 0,
+        line: 0,
+    };
+    for word in words {
+        let (field, value) = word.split_once('=').unwrap_or((word, ""));
+        let value = number(value, at);
+        match field {
+            "c" => record.defined = value,
+            "a" => record.first = value,
+            "b" => record.second = value,
+            "n" => record.number = value,
+            _ => panic!("line {at}: no such field: {word}"),
+        }
+    }
+    record
+}
+
+/// What the library answers, in the words of the page; a step that is not accepted must leave the
+/// configuration alone.
+fn answer(block: &Block) -> String {
+    let [first, second] = block.configurations;
+    if block.same_place {
+        return match ccsl::same_place(&block.records, block.clocks, &first, &second) {
+            SamePlace::Same => "same".to_string(),
+            SamePlace::Different => "different".to_string(),
+            SamePlace::Refused(refusal) => refused(refusal),
+        };
+    }
+    let mut words = first;
+    let answer = ccsl::step(&block.records, block.clocks, &mut words, block.ticks);
+    assert!(
+        answer == StepAnswer::Accepted || words == first,
+        "{answer:?} moved the configuration"
+    );
+    match answer {
+        StepAnswer::Accepted => "accepted".to_string(),
+        StepAnswer::Violated(record) => format!("violated {record}"),
+        StepAnswer::Refused(refusal) => refused(refusal),
+    }
+}
+
+fn refused(Refusal { number, place }: Refusal) -> String {
+    format!("refused {number} {place}")
+}
+
+#[test]
+fn every_number_has_its_heading() {
+    let page = page();
+    for number in OF_A_RUN.iter().chain(&OF_A_CALL) {
+        let heading = format!("## {number}");
+        let is_heading = |line: &str| {
+            line.strip_prefix(&heading)
+                .is_some_and(|rest| !rest.starts_with(|c: char| c.is_ascii_digit()))
+        };
+        assert!(
+            page.lines().any(is_heading),
+            "docs/refusals.md has no heading {heading}"
+        );
+    }
+}
+
+#[test]
+fn every_block_has_the_answer_that_it_states() {
+    for (at, block) in blocks(&page()) {
+        assert_eq!(
+            answer(&block),
+            block.answer,
+            "docs/refusals.md, block in line {at}"
+        );
+    }
+}
+
+#[test]
+fn every_number_of_a_call_has_a_block() {
+    let blocks = blocks(&page());
+    for number in OF_A_CALL {
+        let start = format!("refused {number} ");
+        assert!(
+            blocks
+                .iter()
+                .any(|(_, block)| block.answer.starts_with(&start)),
+            "docs/refusals.md has no block for {number}"
+        );
+    }
+}
+
+#[test]
+fn every_number_of_a_run_has_a_folder() {
+    for number in OF_A_RUN {
+        let path = repository().join(format!("examples/refusals/{number}/printed"));
+        let printed =
+            fs::read_to_string(&path).unwrap_or_else(|e| panic!("{}: {e}", path.display()));
+        assert!(
+            printed.starts_with(&format!("refused {number} ")),
+            "{}: {printed}",
+            path.display()
+        );
+    }
+}
+
+#[test]
+fn blocks_are_read() {
+    let page = "text\n```step\nclocks 3\nrecord await c=2 a=1 n=2\nrecord upto c=0 a=1 b=2\n\
+        words 2 1\nticks 0 1\nanswer  refused 51  1\n```\n\
+        ```same-place\nfirst -1\nsecond 1\n```\n";
+    let blocks = blocks(page);
+    assert_eq!(
+        blocks.iter().map(|(at, _)| *at).collect::<Vec<_>>(),
+        [2, 10]
+    );
+    let (one, two) = (&blocks[0].1, &blocks[1].1);
+    assert_eq!(
+        (one.same_place, one.clocks, one.ticks, one.answer.as_str()),
+        (false, 3, 0b011, "refused 51 1")
+    );
+    assert_eq!(
+        one.records[0],
+        Record {
+            kind: Kind::Await,
+            defined: 2,
+            first: 1,
+            second: 0,
+            number: 2,
+            line: 0
+        }
+    );
+    assert_eq!(one.configurations[0][..3], [2, 1, 0]);
+    assert_eq!(
+        (
+            two.same_place,
+            two.configurations[0][0],
+            two.configurations[1][0]
+        ),
+        (true, -1, 1)
+    );
+}

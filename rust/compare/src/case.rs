@@ -1,0 +1,160 @@
+//! One question to a monitor, and the answer to it.
+
+use second_opinion::{Configuration, Record, Refusal, Report, SamePlace, StepAnswer, Verdict};
+use std::fmt;
+use std::ops::Range;
+
+/// A question, with all that is handed in.
+#[derive(Clone, PartialEq, Eq)]
+pub enum Case {
+    /// The whole run of a recording by a table.
+    Run { table: Vec<u8>, recording: Vec<u8> },
+    /// Reading a table.
+    Read { text: Vec<u8> },
+    /// A single step.
+    Step {
+        records: Vec<Record>,
+        clocks: u32,
+        words: Configuration,
+        ticks: u32,
+    },
+    /// Whether two configurations stand at the same place.
+    Place {
+        records: Vec<Record>,
+        clocks: u32,
+        first: Configuration,
+        second: Configuration,
+    },
+    /// The same question, which the second monitor answers by looking at all continuations of at
+    /// most `depth` sets.
+    Search {
+        records: Vec<Record>,
+        clocks: u32,
+        first: Configuration,
+        second: Configuration,
+        depth: usize,
+    },
+}
+
+/// Every part of an answer.
+#[derive(Clone, Debug, PartialEq, Eq)]
+pub enum Answer {
+    Run(Report),
+    Read(Result<Read, Refusal>),
+    /// The answer and the configuration after the call.
+    Step(StepAnswer, Configuration),
+    Place(SamePlace),
+    /// The monitor broke off, with this message.
+    Panicked(String),
+}
+
+/// A table that was read: the records, and the clocks with the places at which they first stand in
+/// the text.
+#[derive(Clone, Debug, PartialEq, Eq)]
+pub struct Read {
+    pub records: Vec<Record>,
+    pub clocks: Vec<(String, Range<usize>)>,
+}
+
+impl Answer {
+    /// The refusal, if the answer is one.
+    pub fn refusal(&self) -> Option<Refusal> {
+        match self {
+            Answer::Run(Report {
+                verdict: Verdict::Refused(refusal),
+                ..
+            })
+            | Answer::Read(Err(refusal))
+            | Answer::Step(StepAnswer::Refused(refusal), _)
+            | Answer::Place(SamePlace::Refused(refusal)) => Some(*refusal),
+            _ => None,
+        }
+    }
+}
+
+impl fmt::Display for Case {
+    fn fmt(&self, f: &mut fmt::Formatter<'_>) -> fmt::Result {
+        match self {
+            Case::Run { table, recording } => {
+                writeln!(f, "run")?;
+                write_text(f, "table", table)?;
+                write_text(f, "recording", recording)
+            }
+            Case::Read { text } => {
+                writeln!(f, "read_table")?;
+                write_text(f, "text", text)
+            }
+            Case::Step {
+                records,
+                clocks,
+                words,
+                ticks,
+            } => {
+                writeln!(f, "step\n  clocks: {clocks}\n  ticks: {ticks:#b}")?;
+                write_records(f, records)?;
+                write_words(f, "words", words)
+            }
+            Case::Place {
+                records,
+                clocks,
+                first,
+                second,
+            }
+            | Case::Search {
+                records,
+                clocks,
+                first,
+                second,
+                ..
+            } => {
+                writeln!(f, "same_place\n  clocks: {clocks}")?;
+                write_records(f, records)?;
+                write_words(f, "first", first)?;
+                write_words(f, "second", second)
+            }
+        }
+    }
+}
+
+/// The text as a byte string; of a very long one both ends, since the seed and the pair give the
+/// whole.
+fn write_text(f: &mut fmt::Formatter<'_>, name: &str, text: &[u8]) -> fmt::Result {
+    write!(f, "  {name} ({} bytes): b\"", text.len())?;
+    if text.len() <= 5000 {
+        return writeln!(f, "{}\"", text.escape_ascii());
+    }
+    let (head, tail) = (&text[..1000], &text[text.len() - 1000..]);
+    writeln!(
+        f,
+        "{}\" … b\"{}\"",
+        head.escape_ascii(),
+        tail.escape_ascii()
+    )
+}
+
+fn write_records(f: &mut fmt::Formatter<'_>, records: &[Record]) -> fmt::Result {
+    for Record {
+        kind,
+        defined,
+        first,
+        second,
+        number,
+        line,
+    } in records
+    {
+        writeln!(
+            f,
+            "  record {kind:?} c={defined} a={first} b={second} n={number} line={line}"
+        )?;
+    }
+    Ok(())
+}
+
+/// The words without the zeros at the end.
+fn write_words(f: &mut fmt::Formatter<'_>, name: &str, words: &Configuration) -> fmt::Result {
+    let length = words
+        .iter()
+        .rposition(|word| *word != 0)
+        .map_or(0, |last| last + 1);
+    writeln!(f, "  {name}: {:?}", &words[..length])
+}

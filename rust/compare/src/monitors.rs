@@ -1,0 +1,289 @@
+//! The two monitors, asked the same questions and answering in the same words.
+
+use crate::case::{Answer, Case, Read};
+use second_opinion::{
+    Configuration, Kind, Record, Refusal, Report, SamePlace, StepAnswer, Verdict,
+};
+use std::cell::Cell;
+use std::ops::Range;
+use std::panic::{catch_unwind, set_hook, take_hook, AssertUnwindSafe};
+use std::sync::Once;
+
+/// A monitor: a question goes in, the answer comes out.
+pub type Monitor<'a> = &'a dyn Fn(&Case) -> Answer;
+
+thread_local! {
+    static ASKING: Cell<bool> = const { Cell::new(false) };
+}
+
+/// The answer of a monitor, also where it breaks off; its message is then part of the answer and
+/// not printed.
+pub fn ask(monitor: Monitor, case: &Case) -> Answer {
+    keep_messages();
+    ASKING.set(true);
+    let answer = catch_unwind(AssertUnwindSafe(|| monitor(case)));
+    ASKING.set(false);
+    answer.unwrap_or_else(|cause| {
+        let text = cause.downcast_ref::<String>().map(String::as_str);
+        let text = text.or_else(|| cause.downcast_ref::<&str>().copied());
+        Answer::Panicked(text.unwrap_or("").to_string())
+    })
+}
+
+/// From the first call on, no message is printed while a monitor is asked.
+fn keep_messages() {
+    static ONCE: Once = Once::new();
+    ONCE.call_once(|| {
+        let print = take_hook();
+        set_hook(Box::new(move |message| {
+            if !ASKING.get() {
+                print(message);
+            }
+        }));
+    });
+}
+
+/// The proved library.
+pub fn library(case: &Case) -> Answer {
+    match case {
+        Case::Run { table, recording } => Answer::Run(report(ccsl::run(table, recording))),
+        Case::Read { text } => Answer::Read(ccsl::read_table(text).map(read).map_err(refusal)),
+        Case::Step {
+            records,
+            clocks,
+            words,
+            ticks,
+        } => {
+            let mut words = *words;
+            let answer = ccsl::step(&to_library(records), *clocks, &mut words, *ticks);
+            Answer::Step(step_answer(answer), words)
+        }
+        Case::Place {
+            records,
+            clocks,
+            first,
+            second,
+        }
+        | Case::Search {
+            records,
+            clocks,
+            first,
+            second,
+            ..
+        } => Answer::Place(place(ccsl::same_place(
+            &to_library(records),
+            *clocks,
+            first,
+            second,
+        ))),
+    }
+}
+
+/// The monitor that was written separately.
+pub fn second(case: &Case) -> Answer {
+    match case {
+        Case::Run { table, recording } => Answer::Run(second_opinion::run(table, recording)),
+        Case::Read { text } => {
+            Answer::Read(second_opinion::read_table(text).map(|table| second_read(text, table)))
+        }
+        Case::Step {
+            records,
+            clocks,
+            words,
+            ticks,
+        } => {
+            let mut words = *words;
+            let answer = second_opinion::step(records, u64::from(*clocks), &mut words, *ticks);
+            Answer::Step(answer, words)
+        }
+        Case::Place {
+            records,
+            clocks,
+            first,
+            second,
+        } => Answer::Place(second_opinion::same_place(
+            records,
+            u64::from(*clocks),
+            first,
+            second,
+        )),
+        Case::Search {
+            records,
+            clocks,
+            first,
+            second,
+            depth,
+        } => Answer::Place(by_search(records, *clocks, first, second, *depth)),
+    }
+}
+
+/// Same place by search: some record tells the two apart by a continuation of at most `depth` sets,
+/// or none does.
+fn by_search(
+    records: &[Record],
+    clocks: u32,
+    first: &Configuration,
+    second: &Configuration,
+    depth: usize,
+) -> SamePlace {
+    let clocks = u64::from(clocks);
+    if let SamePlace::Refused(refusal) = second_opinion::same_place(records, clocks, first, second)
+    {
+        return SamePlace::Refused(refusal);
+    }
+    let tells = |i: usize| {
+        second_opinion::told_apart(&records[i], clocks, first[i], second[i], depth).is_some()
+    };
+    if (0..records.len()).any(tells) {
+        SamePlace::Different
+    } else {
+        SamePlace::Same
+    }
+}
+
+fn second_read(text: &[u8], table: second_opinion::Table) -> Read {
+    let place = |name: String| {
+        let place = first_place(text, name.as_bytes());
+        (name, place)
+    };
+    Read {
+        records: table.records.into_iter().map(named).collect(),
+        clocks: table.names.into_iter().map(place).collect(),
+    }
+}
+
+/// Where a word first stands in a table's text.
+fn first_place(text: &[u8], word: &[u8]) -> Range<usize> {
+    let mut start = 0;
+    for piece in text.split(|byte| matches!(byte, b' ' | b'\n')) {
+        if piece == word {
+            return start..start + piece.len();
+        }
+        start += piece.len() + 1;
+    }
+    0..0
+}
+
+/// A record with zeros where its kind names nothing.
+pub fn named(record: Record) -> Record {
+    let defines = defines(record.kind);
+    let pair = !matches!(record.kind, Kind::Empty | Kind::Await);
+    Record {
+        kind: record.kind,
+        defined: if defines { record.defined } else { 0 },
+        first: if record.kind == Kind::Empty {
+            0
+        } else {
+            record.first
+        },
+        second: if pair { record.second } else { 0 },
+        number: if record.kind == Kind::Await {
+            record.number
+        } else {
+            0
+        },
+        line: record.line,
+    }
+}
+
+/// Whether a kind defines a clock.
+pub fn defines(kind: Kind) -> bool {
+    use Kind::*;
+    matches!(
+        kind,
+        Union | Inter | Lub | Glb | Await | StrictlySampled | Sampled | Upto
+    )
+}
+
+/// All kinds, in the order in which [`ccsl::KINDS`] has them.
+pub const KINDS: [Kind; 14] = [
+    Kind::Empty,
+    Kind::Coincides,
+    Kind::Excludes,
+    Kind::SubClock,
+    Kind::StrictlyPrecedes,
+    Kind::Precedes,
+    Kind::Union,
+    Kind::Inter,
+    Kind::Lub,
+    Kind::Glb,
+    Kind::Await,
+    Kind::StrictlySampled,
+    Kind::Sampled,
+    Kind::Upto,
+];
+
+fn to_library(records: &[Record]) -> Vec<ccsl::Record> {
+    let one = |r: &Record| ccsl::Record {
+        kind: ccsl::KINDS[KINDS
+            .iter()
+            .position(|kind| *kind == r.kind)
+            .expect("every kind is listed")],
+        defined: r.defined,
+        first: r.first,
+        second: r.second,
+        number: r.number,
+        line: r.line,
+    };
+    records.iter().map(one).collect()
+}
+
+fn read(table: ccsl::Table) -> Read {
+    let record = |r: ccsl::Record| Record {
+        kind: KINDS[r.kind as usize],
+        defined: r.defined,
+        first: r.first,
+        second: r.second,
+        number: r.number,
+        line: r.line,
+    };
+    Read {
+        records: table
+            .records
+            .into_iter()
+            .map(|r| named(record(r)))
+            .collect(),
+        clocks: table
+            .clocks
+            .into_iter()
+            .map(|clock| (clock.name, clock.place))
+            .collect(),
+    }
+}
+
+fn report(report: ccsl::Report) -> Report {
+    let verdict = match report.verdict {
+        ccsl::Verdict::Accepted => Verdict::Accepted,
+        ccsl::Verdict::Violated { line, time } => Verdict::Violated { line, time },
+        ccsl::Verdict::Refused(r) => Verdict::Refused(refusal(r)),
+    };
+    Report {
+        verdict,
+        steps: report.steps,
+        constraints: report.constraints,
+        configuration: report.configuration,
+    }
+}
+
+fn step_answer(answer: ccsl::StepAnswer) -> StepAnswer {
+    match answer {
+        ccsl::StepAnswer::Accepted => StepAnswer::Accepted,
+        ccsl::StepAnswer::Violated(record) => StepAnswer::Violated(record),
+        ccsl::StepAnswer::Refused(r) => StepAnswer::Refused(refusal(r)),
+    }
+}
+
+fn place(answer: ccsl::SamePlace) -> SamePlace {
+    match answer {
+        ccsl::SamePlace::Same => SamePlace::Same,
+        ccsl::SamePlace::Different => SamePlace::Different,
+        ccsl::SamePlace::Refused(r) => SamePlace::Refused(refusal(r)),
+    }
+}
+
+fn refusal(refusal: ccsl::Refusal) -> Refusal {
+    Refusal {
+        number: refusal.number,
+        place: refusal.place,
+    }
+}

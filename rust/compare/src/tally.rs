@@ -1,0 +1,117 @@
+//! What a comparison has met, counted.
+
+use crate::case::Answer;
+use crate::generate::{Group, GROUPS};
+use second_opinion::{SamePlace, StepAnswer, Verdict};
+use std::collections::BTreeMap;
+use std::fmt;
+
+/// Every refusal number of document 01.
+pub const REFUSALS: [u64; 26] = [
+    10, 11, 12, 13, 14, 15, 16, 17, 18, 30, 31, 32, 33, 34, 35, 36, 37, 40, 41, 42, 43, 44, 51, 59,
+    60, 61,
+];
+
+/// Counts of what came up.
+#[derive(Clone, Debug, Default)]
+pub struct Tally {
+    /// By the place of the group in [`GROUPS`].
+    groups: [u64; GROUPS.len()],
+    /// By the words for an answer.
+    answers: BTreeMap<&'static str, u64>,
+    refusals: BTreeMap<u64, u64>,
+    /// Accepted steps of all runs together.
+    steps: u64,
+    /// Accepted steps of the longest run that was accepted whole.
+    longest: u64,
+}
+
+impl Tally {
+    /// Counts a pair of equal answers.
+    pub fn count(&mut self, group: Group, answer: &Answer) {
+        self.groups[GROUPS
+            .iter()
+            .position(|(_, other)| *other == group)
+            .expect("every group is listed")] += 1;
+        *self.answers.entry(words_for(answer)).or_default() += 1;
+        if let Some(refusal) = answer.refusal() {
+            *self.refusals.entry(refusal.number).or_default() += 1;
+        }
+        if let Answer::Run(report) = answer {
+            self.steps += report.steps;
+            if report.verdict == Verdict::Accepted {
+                self.longest = self.longest.max(report.steps);
+            }
+        }
+    }
+
+    /// Pairs that were counted.
+    pub fn pairs(&self) -> u64 {
+        self.groups.iter().sum()
+    }
+
+    /// How often an answer came up; the words are those that are printed.
+    pub fn answers(&self, words: &str) -> u64 {
+        self.answers.get(words).copied().unwrap_or(0)
+    }
+
+    /// Accepted steps of the longest run that was accepted whole.
+    pub fn longest(&self) -> u64 {
+        self.longest
+    }
+
+    /// The refusal numbers that never came up.
+    pub fn never_met(&self) -> Vec<u64> {
+        REFUSALS
+            .iter()
+            .copied()
+            .filter(|number| !self.refusals.contains_key(number))
+            .collect()
+    }
+}
+
+fn words_for(answer: &Answer) -> &'static str {
+    match answer {
+        Answer::Run(report) => match report.verdict {
+            Verdict::Accepted => "run accepted",
+            Verdict::Violated { .. } => "run violated",
+            Verdict::Refused(_) => "run refused",
+        },
+        Answer::Read(Ok(_)) => "table read",
+        Answer::Read(Err(_)) => "table refused",
+        Answer::Step(StepAnswer::Accepted, _) => "step accepted",
+        Answer::Step(StepAnswer::Violated(_), _) => "step violated",
+        Answer::Step(StepAnswer::Refused(_), _) => "step refused",
+        Answer::Place(SamePlace::Same) => "places the same",
+        Answer::Place(SamePlace::Different) => "places different",
+        Answer::Place(SamePlace::Refused(_)) => "places refused",
+        Answer::Panicked(_) => "both broke off",
+    }
+}
+
+impl fmt::Display for Tally {
+    fn fmt(&self, f: &mut fmt::Formatter<'_>) -> fmt::Result {
+        writeln!(f, "pairs by group:")?;
+        for ((_, group), count) in GROUPS.iter().zip(self.groups) {
+            writeln!(f, "  {:<20} {count:>9}", format!("{group:?}"))?;
+        }
+        writeln!(f, "answers:")?;
+        for (words, count) in &self.answers {
+            writeln!(f, "  {words:<20} {count:>9}")?;
+        }
+        writeln!(
+            f,
+            "  {:<20} {:>9}\n  {:<20} {:>9}",
+            "steps of runs", self.steps, "longest accepted run", self.longest
+        )?;
+        writeln!(f, "refusals:")?;
+        for number in REFUSALS {
+            writeln!(
+                f,
+                "  {number:<20} {:>9}",
+                self.refusals.get(&number).copied().unwrap_or(0)
+            )?;
+        }
+        Ok(())
+    }
+}

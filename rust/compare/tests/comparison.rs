@@ -1,0 +1,104 @@
+//! The proved library and the separately written monitor give the same answers, on a few thousand
+//! questions of fixed seeds.
+
+use compare::generate::{Group, GROUPS};
+use compare::monitors::{library, second};
+use compare::tally::Tally;
+use compare::{compare, compare_group};
+
+/// So many questions of a group agree.
+fn agree(seed: u64, pairs: u64, group: Group) -> Tally {
+    compare_group(seed, 0..pairs, group, &library, &second)
+        .unwrap_or_else(|mismatch| panic!("{mismatch}"))
+}
+
+#[test]
+fn mixed_questions_agree_and_meet_every_refusal_number() {
+    let tally = compare(1, 0..6000, &library, &second, &mut |_| {})
+        .unwrap_or_else(|mismatch| panic!("{mismatch}"));
+    assert_eq!(tally.pairs(), 6000);
+    assert_eq!(tally.never_met(), [], "refusal numbers that never came up");
+    let answers = [
+        "run accepted",
+        "run violated",
+        "run refused",
+        "table read",
+        "table refused",
+        "step accepted",
+        "step violated",
+        "step refused",
+        "places the same",
+        "places different",
+        "places refused",
+    ];
+    for words in answers {
+        assert!(
+            tally.answers(words) >= 50,
+            "{words}: {}",
+            tally.answers(words)
+        );
+    }
+    assert_eq!(tally.answers("both broke off"), 0);
+}
+
+#[test]
+fn tables_agree() {
+    agree(2, 1500, Group::Table);
+    agree(3, 1500, Group::TableLimits);
+    agree(4, 1500, Group::DamagedTable);
+}
+
+#[test]
+fn short_runs_agree() {
+    let tally = agree(5, 1500, Group::ShortRun);
+    assert!(
+        tally.answers("run accepted") >= 400 && tally.answers("run violated") >= 400,
+        "{tally}"
+    );
+}
+
+#[test]
+fn long_runs_agree() {
+    agree(6, 200, Group::MediumRun);
+    let tally = agree(7, 12, Group::LongRun);
+    assert!(tally.longest() > 2000, "{tally}");
+}
+
+#[test]
+fn recordings_at_the_limits_agree() {
+    agree(8, 2000, Group::RecordingLimits);
+    agree(9, 12, Group::RecordingLength);
+}
+
+#[test]
+fn damaged_recordings_agree() {
+    agree(10, 1500, Group::DamagedRecording);
+}
+
+#[test]
+fn steps_and_places_agree() {
+    let steps = agree(11, 3000, Group::Step);
+    assert!(
+        steps.answers("step accepted") >= 500 && steps.answers("step violated") >= 300,
+        "{steps}"
+    );
+    let places = agree(12, 3000, Group::SamePlace);
+    assert!(
+        places.answers("places the same") >= 300 && places.answers("places different") >= 300,
+        "{places}"
+    );
+}
+
+#[test]
+fn places_agree_with_a_search_of_all_continuations() {
+    let places = agree(13, 600, Group::SamePlaceBySearch);
+    assert!(
+        places.answers("places the same") >= 100 && places.answers("places different") >= 100,
+        "{places}"
+    );
+}
+
+#[test]
+fn every_group_has_a_weight() {
+    assert!(GROUPS.iter().all(|(weight, _)| *weight > 0));
+}

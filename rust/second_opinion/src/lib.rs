@@ -1,0 +1,54 @@
+//! Kernel clock constraints over event recordings: a second opinion.
+//!
+//! "It reads a table in the textual form of simple kernel CCSL and a recording
+//! as a Value Change Dump. It judges the steps and gives verdict, number of
+//! accepted steps, and configuration. Other public questions: one step on a
+//! given configuration, and whether two configurations stand at the same
+//! place."
+//!
+//! The crate is written from the scope paper (document 01) alone, and shares
+//! nothing with the monitor that it is held against. Quoted sentences in these
+//! comments are that paper's.
+
+#![forbid(unsafe_code)]
+#![warn(missing_docs)]
+
+mod place;
+mod recording;
+mod rule;
+mod run;
+mod step;
+mod table;
+
+pub use place::{same_place, told_apart, SamePlace};
+pub use rule::{judge, start_word, Kind, Record};
+pub use run::{run, Report, Verdict};
+pub use step::{step, StepAnswer};
+pub use table::{read_table, Table};
+
+/// "A configuration is 64 words, one a constraint in table order, the rest 0."
+pub const WORDS: usize = 64;
+
+/// The words of all constraints, in table order.
+pub type Configuration = [i64; WORDS];
+
+/// The most clocks that a table, or a list of records, may speak of.
+pub(crate) const CLOCKS: usize = 32;
+
+/// A refusal: its number, and the place that the paper gives it.
+#[derive(Clone, Copy, Debug, PartialEq, Eq, Hash)]
+pub struct Refusal {
+    /// The number of the condition, as in "Where each refusal is checked".
+    pub number: u64,
+    /// A line, an offset, a record or a word, as the number says.
+    pub place: u64,
+}
+
+impl Refusal {
+    pub(crate) fn new(number: u64, place: usize) -> Self {
+        Refusal {
+            number,
+            place: place as u64,
+        }
+    }
+}

@@ -1,0 +1,142 @@
+//! Whether two configurations stand at the same place.
+//!
+//! "A continuation is a finite list of sets of clock numbers below the clock
+//! count; the list may be empty, and so may any set. One record judges it with
+//! a w of its own … No other record and no answer of a call comes in." Two
+//! configurations stand at the same place when every record accepts the same
+//! continuations from its word in the one and from its word in the other.
+
+use std::collections::HashSet;
+
+use crate::step::{check_records, check_words};
+use crate::{judge, Configuration, Record, Refusal, CLOCKS};
+
+/// The answer to the same-place question.
+#[derive(Clone, Copy, Debug, PartialEq, Eq)]
+pub enum SamePlace {
+    /// No record tells the two configurations apart.
+    Same,
+    /// Some record accepts a continuation from the one and not from the other.
+    Different,
+    /// The question was not asked of proper records and words.
+    Refused(Refusal),
+}
+
+/// Whether two configurations stand at the same place, by rule: they do exactly
+/// when each record's two words are equal.
+///
+/// Equal words are judged alike, set for set. Unequal words v < w, both in
+/// range, are always told apart: 59 makes a record's clocks distinct and lets
+/// each tick or not as we like, and 51 is set aside. What tells them apart, and
+/// from which word it is not accepted:
+///
+/// * no word of its own: 0 is the only word in range, so none are unequal.
+/// * `strictly precedes`, `precedes`: v + 1 times {b}; the last fails from v,
+///   which has come to 0.
+/// * `lub`, 0 ≤ v: v + 1 times {b, c}; the last fails from v, where c now asks
+///   for both. w ≤ 0: the same with {a, c}, -w + 1 times, failing from w.
+///   v < 0 < w: {b} fails from w alone.
+/// * `glb`, 0 ≤ v: v + 1 times {b}; the last fails from v, where c now ticks on
+///   either. w ≤ 0: the same with {a}, failing from w. v < 0 < w: {b} fails
+///   from v alone.
+/// * `await`, v > 0: v times {a}; the last fails from v, where c is due and from
+///   w not yet. v = 0: w times {a} fails from w, and 0 never asks for c.
+/// * `strictly sampled`: 1 asks for c on {b}, 0 and 2 do not; {a}, {b} fails
+///   from 2, and not from 0.
+/// * `sampled`: 1 asks for c on {b}, 0 and 2 do not; {a, b} fails from 2, and
+///   not from 0.
+/// * `upto`: {a} fails from 1, and not from 0.
+///
+/// `told_apart` looks for such continuations without knowing any of this.
+pub fn same_place(
+    records: &[Record],
+    clocks: u64,
+    first: &Configuration,
+    second: &Configuration,
+) -> SamePlace {
+    let checked = check_records(records, clocks)
+        .and_then(|()| check_words(records, first))
+        .and_then(|()| check_words(records, second));
+    if let Err(refusal) = checked {
+        return SamePlace::Refused(refusal);
+    }
+    // Beyond the records both are 0 by now.
+    if first == second {
+        SamePlace::Same
+    } else {
+        SamePlace::Different
+    }
+}
+
+/// Two words that one continuation leads to, and how it came there.
+struct Reached {
+    words: (i64, i64),
+    length: usize,
+    came_by: Option<(usize, u32)>,
+}
+
+/// By search: a continuation of at most `depth` sets of clocks below `clocks`
+/// that the record, judged by itself, accepts from one of the two words and not
+/// from the other. The shortest are tried first.
+///
+/// A record looks at its own clocks alone, so of all tick sets that agree on
+/// those only the one without any other clock is tried.
+pub fn told_apart(
+    record: &Record,
+    clocks: u64,
+    one: i64,
+    other: i64,
+    depth: usize,
+) -> Option<Vec<u32>> {
+    let sets = tick_sets(record, clocks);
+    let mut seen = HashSet::from([(one, other)]);
+    let mut reached = vec![Reached {
+        words: (one, other),
+        length: 0,
+        came_by: None,
+    }];
+    let mut next = 0;
+    while let Some(&Reached { words, length, .. }) = reached.get(next) {
+        if length == depth {
+            break; // what follows is at least as long
+        }
+        for &set in &sets {
+            let (one_holds, one_after) = judge(record, words.0, set);
+            let (other_holds, other_after) = judge(record, words.1, set);
+            if one_holds != other_holds {
+                return Some(continuation(&reached, next, set));
+            }
+            let after = (one_after, other_after);
+            if one_holds && seen.insert(after) {
+                reached.push(Reached {
+                    words: after,
+                    length: length + 1,
+                    came_by: Some((next, set)),
+                });
+            }
+        }
+        next += 1;
+    }
+    None
+}
+
+/// All sets of the record's own clocks below the clock count.
+fn tick_sets(record: &Record, clocks: u64) -> Vec<u32> {
+    record
+        .clocks()
+        .filter(|&clock| clock < clocks.min(CLOCKS as u64))
+        .fold(vec![0], |without, clock| {
+            let with = without.iter().map(|set| set | 1 << clock);
+            without.iter().copied().chain(with).collect()
+        })
+}
+
+/// The sets that lead to the place reached, and one more.
+fn continuation(reached: &[Reached], place: usize, last: u32) -> Vec<u32> {
+    let back = |came_by: &(usize, u32)| reached.get(came_by.0)?.came_by;
+    let start = reached.get(place).and_then(|there| there.came_by);
+    let mut sets = vec![last];
+    sets.extend(std::iter::successors(start, back).map(|(_, set)| set));
+    sets.reverse();
+    sets
+}

@@ -1,0 +1,228 @@
+//! A table run over a recording.
+
+use std::fmt;
+
+use crate::recording::{self, Variable, Variables, Word, Words};
+use crate::step::{advance, Stop};
+use crate::{read_table, start_word, Configuration, Record, Refusal, Table, WORDS};
+
+/// "The verdict is `accepted`, or `violated` with table line and time, or
+/// `refused` with number and place."
+#[derive(Clone, Copy, Debug, PartialEq, Eq)]
+pub enum Verdict {
+    /// Every step held.
+    Accepted,
+    /// A step failed: "A violation is a verdict and has no refusal number."
+    Violated {
+        /// The table line of the first constraint that failed.
+        line: u64,
+        /// The recorded time of the step.
+        time: u64,
+    },
+    /// The table, the recording or a step was refused.
+    Refused(Refusal),
+}
+
+impl From<Refusal> for Verdict {
+    fn from(refusal: Refusal) -> Self {
+        Verdict::Refused(refusal)
+    }
+}
+
+/// What a run gives.
+#[derive(Clone, Debug, PartialEq, Eq)]
+pub struct Report {
+    /// The verdict.
+    pub verdict: Verdict,
+    /// The number of accepted steps.
+    pub steps: u64,
+    /// The number of constraints; 0 for a refused table.
+    pub constraints: usize,
+    /// The configuration after the accepted steps.
+    pub configuration: Configuration,
+}
+
+impl fmt::Display for Report {
+    /// "prints three lines: verdict, `steps n`, `config` and a word for each
+    /// constraint"
+    fn fmt(&self, f: &mut fmt::Formatter<'_>) -> fmt::Result {
+        match self.verdict {
+            Verdict::Accepted => writeln!(f, "accepted")?,
+            Verdict::Violated { line, time } => writeln!(f, "violated {line} {time}")?,
+            Verdict::Refused(Refusal { number, place }) => {
+                writeln!(f, "refused {number} {place}")?;
+            }
+        }
+        writeln!(f, "steps {}", self.steps)?;
+        write!(f, "config")?;
+        for word in self.configuration.iter().take(self.constraints) {
+            write!(f, " {word}")?;
+        }
+        writeln!(f)
+    }
+}
+
+/// Reads a table, then a recording, and judges its steps.
+pub fn run(table: &[u8], recording: &[u8]) -> Report {
+    match read_table(table) {
+        Ok(table) => run_table(&table, recording),
+        // "A refused table leaves all records empty, 64 zero words and 0 steps."
+        Err(refusal) => Report {
+            verdict: refusal.into(),
+            steps: 0,
+            constraints: 0,
+            configuration: [0; WORDS],
+        },
+    }
+}
+
+/// "Any other refusal, and a violation, gives the steps accepted so far and the
+/// configuration after them."
+fn run_table(table: &Table, recording: &[u8]) -> Report {
+    let mut monitor = Monitor::start(&table.records);
+    let verdict = match monitor.read(&table.names, recording) {
+        Ok(()) => Verdict::Accepted,
+        Err(verdict) => verdict,
+    };
+    Report {
+        verdict,
+        steps: monitor.steps.0,
+        constraints: table.records.len(),
+        configuration: monitor.configuration,
+    }
+}
+
+/// The number of accepted steps. "The step count and the recorded time are two
+/// counters kept apart: only the second comes from the file."
+#[derive(Clone, Copy, Debug, PartialEq, Eq)]
+struct Steps(u64);
+
+/// The recorded time.
+#[derive(Clone, Copy, Debug, PartialEq, Eq, PartialOrd, Ord)]
+struct Time(u64);
+
+/// A step that a mark has started and nothing has judged yet.
+struct OpenStep {
+    time: Time,
+    offset: usize,
+    ticks: u32,
+}
+
+struct Monitor<'t> {
+    records: &'t [Record],
+    configuration: Configuration,
+    steps: Steps,
+}
+
+impl<'t> Monitor<'t> {
+    fn start(records: &'t [Record]) -> Self {
+        let mut configuration = [0; WORDS];
+        for (word, record) in configuration.iter_mut().zip(records) {
+            *word = start_word(record);
+        }
+        Monitor {
+            records,
+            configuration,
+            steps: Steps(0),
+        }
+    }
+
+    /// "Reading stops at the first violation or refusal."
+    fn read(&mut self, names: &[String], recording: &[u8]) -> Result<(), Verdict> {
+        let text = recording::text(recording)?;
+        let mut words = Words::of(text);
+        let variables = recording::read_header(&mut words, names)?;
+        let mut open: Option<OpenStep> = None;
+        for word in words {
+            if let Some(digits) = word.text.strip_prefix('#') {
+                // "The step is judged as soon as a word opening with `#` or the
+                // end is met, before that mark's digits are read."
+                self.judge(open.as_ref())?;
+                let last = open.map(|step| step.time);
+                open = Some(mark(word, digits, last)?);
+            } else {
+                change(word, &variables, open.as_mut())?;
+            }
+        }
+        self.judge(open.as_ref())
+    }
+
+    /// Judges the open step, if there is one. "In a whole run 51 has the step's
+    /// mark offset as its place."
+    fn judge(&mut self, open: Option<&OpenStep>) -> Result<(), Verdict> {
+        let Some(step) = open else { return Ok(()) };
+        advance(self.records, &mut self.configuration, step.ticks).map_err(|stop| match stop {
+            Stop::Fails(index) => Verdict::Violated {
+                line: self.records[index].line,
+                time: step.time.0,
+            },
+            Stop::LeavesItsMillion(_) => Refusal::new(51, step.offset).into(),
+        })?;
+        self.steps.0 += 1;
+        Ok(())
+    }
+}
+
+/// "In the body `#` and one or more decimal digits start a step at that time."
+/// Another word is 40; a "time above 2^64 - 1 or not above the last" is 41.
+fn mark(word: Word, digits: &str, last: Option<Time>) -> Result<OpenStep, Refusal> {
+    if digits.is_empty() || !digits.bytes().all(|byte| byte.is_ascii_digit()) {
+        return Err(word.refuse(40));
+    }
+    let time = digits
+        .parse()
+        .map(Time)
+        .ok()
+        .filter(|&time| last.is_none_or(|last| time > last))
+        .ok_or_else(|| word.refuse(41))?;
+    Ok(OpenStep {
+        time,
+        offset: word.offset,
+        ticks: 0,
+    })
+}
+
+/// "`1` and an id is a tick. `0` and an id says no tick." Asked in this order:
+/// 40 no such change, 42 before any mark, 43 id undeclared, 44 "a table clock's
+/// second tick in a step".
+fn change(word: Word, variables: &Variables, open: Option<&mut OpenStep>) -> Result<(), Refusal> {
+    let (ticks, id) = match (word.text.strip_prefix('1'), word.text.strip_prefix('0')) {
+        (Some(id), _) => (true, id),
+        (_, Some(id)) => (false, id),
+        (None, None) => return Err(word.refuse(40)),
+    };
+    if id.is_empty() {
+        return Err(word.refuse(40));
+    }
+    let step = open.ok_or_else(|| word.refuse(42))?;
+    let variable = variables.get(id).ok_or_else(|| word.refuse(43))?;
+    if let (true, Variable::Clock(clock)) = (ticks, variable) {
+        let bit = 1 << clock;
+        if step.ticks & bit != 0 {
+            return Err(word.refuse(44));
+        }
+        step.ticks |= bit;
+    }
+    Ok(())
+}
+
+#[cfg(test)]
+mod tests {
+    use super::*;
+
+    /// No recording of 65,536 bytes has a million steps, so the gap limit of a
+    /// run is tried on a monitor that has come far already.
+    #[test]
+    fn in_a_whole_run_51_has_the_steps_mark_offset_as_its_place() {
+        let table = read_table(b"a precedes b").expect("a table");
+        let header = "$var event 1 ! a $end $var event 1 \" b $end $enddefinitions $end";
+        let mut monitor = Monitor::start(&table.records);
+        monitor.configuration[0] = 999_999;
+        let recording = format!("{header} #1 1! #2 1! 1\" #3 1! #4");
+        let answer = monitor.read(&table.names, recording.as_bytes());
+        let offset = recording.find("#3").expect("the mark");
+        assert_eq!(answer, Err(Verdict::Refused(Refusal::new(51, offset))));
+        assert_eq!(monitor.steps, Steps(2));
+        assert_eq!(monitor.configuration[0], 1_000_000);
+    }
+}

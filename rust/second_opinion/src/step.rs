@@ -1,0 +1,151 @@
+//! The single step.
+
+use std::iter;
+use std::ops::RangeInclusive;
+
+use crate::rule::AWAIT_NUMBERS;
+use crate::{judge, Configuration, Kind, Record, Refusal, CLOCKS, WORDS};
+
+/// The answer to a single step.
+#[derive(Clone, Copy, Debug, PartialEq, Eq)]
+pub enum StepAnswer {
+    /// Every constraint held, and the configuration was moved.
+    Accepted,
+    /// The first record that did not hold, from 1.
+    Violated(u64),
+    /// The step was not judged, or it left the gap limit (51).
+    Refused(Refusal),
+}
+
+/// One step on a given configuration, which it moves if and only if the step is
+/// accepted: "a refused or violated single step hands back the configuration it
+/// was given, and a violated one names its record, from 1."
+pub fn step(
+    records: &[Record],
+    clocks: u64,
+    configuration: &mut Configuration,
+    ticks: u32,
+) -> StepAnswer {
+    let checked = check_records(records, clocks)
+        .and_then(|()| check_words(records, configuration))
+        .and_then(|()| check_ticks(clocks, ticks));
+    if let Err(refusal) = checked {
+        return StepAnswer::Refused(refusal);
+    }
+    match advance(records, configuration, ticks) {
+        Ok(()) => StepAnswer::Accepted,
+        Err(Stop::Fails(index)) => StepAnswer::Violated(index as u64 + 1),
+        Err(Stop::LeavesItsMillion(index)) => StepAnswer::Refused(Refusal::new(51, index + 1)),
+    }
+}
+
+/// Why a step is not accepted, with the record's index.
+pub(crate) enum Stop {
+    /// The first constraint that did not hold.
+    Fails(usize),
+    /// 51: "a word would leave its million either way".
+    LeavesItsMillion(usize),
+}
+
+/// The step itself, on records and words that have passed the checks.
+///
+/// "All formulas use the words from before the step", so the new words are
+/// gathered beside the old ones. 51 is asked "after every constraint held"; only
+/// the forms that count can leave their range, since the other words fall
+/// towards 0 and stay there.
+pub(crate) fn advance(
+    records: &[Record],
+    configuration: &mut Configuration,
+    ticks: u32,
+) -> Result<(), Stop> {
+    let mut next = *configuration;
+    for (index, (record, word)) in records.iter().zip(&mut next).enumerate() {
+        let (holds, after) = judge(record, *word, ticks);
+        if !holds {
+            return Err(Stop::Fails(index));
+        }
+        *word = after;
+    }
+    if let Some(index) = first_outside(records.iter().map(Record::range), &next) {
+        return Err(Stop::LeavesItsMillion(index));
+    }
+    *configuration = next;
+    Ok(())
+}
+
+/// 59, with the lowest place: 0 for the clock count, then the records in
+/// order, then 65 for too many of them.
+pub(crate) fn check_records(records: &[Record], clocks: u64) -> Result<(), Refusal> {
+    if clocks > CLOCKS as u64 {
+        return Err(Refusal::new(59, 0));
+    }
+    let mut defined = ClockSet::default();
+    for (index, record) in records.iter().take(WORDS).enumerate() {
+        let fresh = well_formed(record, clocks)
+            && record.defines().is_none_or(|clock| defined.insert(clock));
+        if !fresh {
+            return Err(Refusal::new(59, index + 1));
+        }
+    }
+    if records.len() > WORDS {
+        return Err(Refusal::new(59, WORDS + 1));
+    }
+    Ok(())
+}
+
+/// Whether a record has no "clock number not below the clock count", no "clock
+/// twice" and no "await number out of range", "nothing else of it being
+/// tested".
+fn well_formed(record: &Record, clocks: u64) -> bool {
+    let mut named = ClockSet::default();
+    record
+        .clocks()
+        .all(|clock| clock < clocks && named.insert(clock))
+        && (record.kind != Kind::Await || AWAIT_NUMBERS.contains(&record.number))
+}
+
+/// A set of clock numbers below 32.
+#[derive(Default)]
+struct ClockSet(u32);
+
+impl ClockSet {
+    /// Puts a clock in; false if it was in already, or has no place here.
+    fn insert(&mut self, clock: u64) -> bool {
+        let bit = if clock < CLOCKS as u64 { 1 << clock } else { 0 };
+        let fresh = self.0 & bit != bit;
+        self.0 |= bit;
+        fresh
+    }
+}
+
+/// 60: "configuration word out of range, or a word beyond the records not 0".
+pub(crate) fn check_words(
+    records: &[Record],
+    configuration: &Configuration,
+) -> Result<(), Refusal> {
+    let ranges = records.iter().map(Record::range);
+    match first_outside(ranges.chain(iter::repeat(0..=0)), configuration) {
+        Some(index) => Err(Refusal::new(60, index + 1)),
+        None => Ok(()),
+    }
+}
+
+/// The index of the first word that is not in its range.
+fn first_outside(
+    ranges: impl Iterator<Item = RangeInclusive<i64>>,
+    configuration: &Configuration,
+) -> Option<usize> {
+    configuration
+        .iter()
+        .zip(ranges)
+        .position(|(word, range)| !range.contains(word))
+}
+
+/// 61: "tick set with a bit at or above the clock count, place 0".
+fn check_ticks(clocks: u64, ticks: u32) -> Result<(), Refusal> {
+    let bits = u32::BITS - ticks.leading_zeros();
+    if u64::from(bits) > clocks {
+        return Err(Refusal::new(61, 0));
+    }
+    Ok(())
+}

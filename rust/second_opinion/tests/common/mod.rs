@@ -1,0 +1,100 @@
+//! What several test files share.
+#![allow(dead_code)]
+
+use second_opinion::*;
+
+pub const MILLION: i64 = 1_000_000;
+
+pub const KINDS: [Kind; 14] = [
+    Kind::Empty,
+    Kind::Coincides,
+    Kind::Excludes,
+    Kind::SubClock,
+    Kind::StrictlyPrecedes,
+    Kind::Precedes,
+    Kind::Union,
+    Kind::Inter,
+    Kind::Lub,
+    Kind::Glb,
+    Kind::Await,
+    Kind::StrictlySampled,
+    Kind::Sampled,
+    Kind::Upto,
+];
+
+/// The tick of a, b and c in the records that `record` makes.
+pub const A: u32 = 1;
+pub const B: u32 = 2;
+pub const C: u32 = 4;
+
+/// A record over a = 0, b = 1 and c = 2, with 3 clocks in all.
+pub fn record(kind: Kind) -> Record {
+    Record {
+        kind,
+        defined: 2,
+        first: 0,
+        second: 1,
+        number: 6,
+        line: 1,
+    }
+}
+
+pub fn awaiting(number: u64) -> Record {
+    Record {
+        number,
+        ..record(Kind::Await)
+    }
+}
+
+/// A configuration that begins with these words.
+pub fn words(first: &[i64]) -> Configuration {
+    let mut configuration = [0; WORDS];
+    configuration[..first.len()].copy_from_slice(first);
+    configuration
+}
+
+/// A single step by value.
+pub fn stepped(
+    records: &[Record],
+    clocks: u64,
+    mut configuration: Configuration,
+    ticks: u32,
+) -> (StepAnswer, Configuration) {
+    let answer = step(records, clocks, &mut configuration, ticks);
+    (answer, configuration)
+}
+
+pub fn refusal(number: u64, place: usize) -> Refusal {
+    Refusal {
+        number,
+        place: place as u64,
+    }
+}
+
+pub fn refused(number: u64, place: usize) -> StepAnswer {
+    StepAnswer::Refused(refusal(number, place))
+}
+
+/// The refusal of a table that must have one.
+pub fn table_refusal(text: impl AsRef<[u8]>) -> (u64, u64) {
+    let refusal = read_table(text.as_ref()).expect_err("a refused table");
+    (refusal.number, refusal.place)
+}
+
+pub fn table(text: impl AsRef<[u8]>) -> Table {
+    read_table(text.as_ref()).expect("an accepted table")
+}
+
+/// Declares a as `!`, b as `"` and c as `%`, and closes the header.
+pub const HEADER: &str =
+    "$var event 1 ! a $end $var event 1 \" b $end $var event 1 % c $end $enddefinitions $end ";
+
+/// The verdict and the steps of a run.
+pub fn verdict(table: &str, recording: impl AsRef<[u8]>) -> (Verdict, u64) {
+    let report = run(table.as_bytes(), recording.as_ref());
+    (report.verdict, report.steps)
+}
+
+pub fn refused_run(number: u64, place: usize, steps: u64) -> (Verdict, u64) {
+    (Verdict::Refused(refusal(number, place)), steps)
+}

@@ -1,0 +1,408 @@
+//! The recording: readings 21 to 36.
+
+mod common;
+
+use common::*;
+use second_opinion::*;
+
+/// A table over a, b and c that every step without both a and b satisfies.
+const TABLE: &str = "a # b\na # c";
+
+const ACCEPTED: Verdict = Verdict::Accepted;
+
+/// A run of `TABLE` over words behind `HEADER`. Refusals are placed from the
+/// first of these words.
+fn body(words: &str) -> (Verdict, u64) {
+    let (verdict, steps) = verdict(TABLE, format!("{HEADER}{words}"));
+    match verdict {
+        Verdict::Refused(refusal) => {
+            let place = refusal.place - HEADER.len() as u64;
+            (Verdict::Refused(Refusal { place, ..refusal }), steps)
+        }
+        other => (other, steps),
+    }
+}
+
+/// A run of an empty table, which no header can leave undeclared.
+fn bare(recording: &str) -> (Verdict, u64) {
+    verdict("", recording)
+}
+
+fn violated(line: u64, time: u64, steps: u64) -> (Verdict, u64) {
+    (Verdict::Violated { line, time }, steps)
+}
+
+const END: &str = "$enddefinitions $end";
+
+#[test]
+fn a_recording_of_65_536_bytes_is_read_and_one_of_65_537_is_30() {
+    let padded = |length: usize| format!("{HEADER}{}", " ".repeat(length - HEADER.len()));
+    assert_eq!(verdict(TABLE, padded(65_536)), (ACCEPTED, 0));
+    assert_eq!(verdict(TABLE, padded(65_537)), refused_run(30, 0, 0));
+    assert_eq!(
+        verdict(TABLE, "\u{1}".repeat(65_537)),
+        refused_run(30, 0, 0)
+    );
+}
+
+#[test]
+fn reading_21_31_is_asked_of_the_whole_recording_before_any_word() {
+    assert_eq!(body("#1 1! 1\" #2"), violated(1, 1, 0));
+    assert_eq!(body("#1 1! 1\" #2 \u{7f}"), refused_run(31, 12, 0));
+    let early = verdict(TABLE, "nonsense \u{b}");
+    assert_eq!(early, refused_run(31, 9, 0));
+    for byte in [0u8, 8, 11, 12, 14, 31, 127, 128, 255] {
+        let recording = [b"$date".as_slice(), &[byte], b" \x00"].concat();
+        assert_eq!(verdict("", recording), refused_run(31, 5, 0), "{byte}");
+    }
+}
+
+#[test]
+fn all_four_parting_bytes_part_words() {
+    let recording = "\n\r\t $enddefinitions\r\n$end\t#1\r#2\n#3\t\t #4\r\n";
+    assert_eq!(bare(recording), (ACCEPTED, 4));
+}
+
+#[test]
+fn bytes_33_to_126_stand_in_words() {
+    let recording = format!("$var event 1 !~ a~!b $end {END} #1 1!~");
+    assert_eq!(bare(&recording), (ACCEPTED, 1));
+}
+
+#[test]
+fn the_header_skips_six_commands_up_to_their_end() {
+    for command in [
+        "$date",
+        "$version",
+        "$comment",
+        "$timescale",
+        "$scope",
+        "$upscope",
+    ] {
+        let recording = format!("{command} x $var {END} $enddefinitions $end");
+        assert_eq!(bare(&recording), (ACCEPTED, 0), "{command}");
+        let recording = format!("{command} $end {END} #1");
+        assert_eq!(bare(&recording), (ACCEPTED, 1), "{command}");
+    }
+}
+
+#[test]
+fn reading_22_a_command_is_a_whole_word_and_case_matters() {
+    for word in [
+        "$end",
+        "$dumpvars",
+        "#0",
+        "$Date",
+        "$dates",
+        "$vars",
+        "$VAR",
+        "$enddefinitions$end",
+        "x",
+        "1!",
+    ] {
+        let recording = format!("$date $end {word} {END}");
+        assert_eq!(bare(&recording), refused_run(32, 11, 0), "{word}");
+    }
+}
+
+#[test]
+fn reading_22_dumpvars_and_comment_in_the_body_are_40() {
+    assert_eq!(body("#1 $dumpvars"), refused_run(40, 3, 0));
+    assert_eq!(body("#1 $comment x $end"), refused_run(40, 3, 0));
+    assert_eq!(body("$end"), refused_run(40, 0, 0));
+}
+
+#[test]
+fn reading_23_a_skipped_command_ends_at_the_first_word_that_is_end() {
+    let recording = format!("$comment $endx x$end $var $enddefinitions $END $end {END} #1");
+    assert_eq!(bare(&recording), (ACCEPTED, 1));
+    let recording = format!("$comment $end $end {END}");
+    assert_eq!(bare(&recording), refused_run(32, 14, 0));
+}
+
+#[test]
+fn reading_24_a_variable_with_fewer_than_six_words_left_is_36() {
+    for recording in [
+        "$var",
+        "$var wire",
+        "$var event 1 toolongid",
+        "$var event 1 ! a",
+        "$var a b c d",
+        "$var event 1 ! $end  \n",
+    ] {
+        let expected = refused_run(36, recording.len(), 0);
+        assert_eq!(bare(recording), expected, "{recording}");
+    }
+}
+
+#[test]
+fn reading_24_a_variable_of_another_shape_is_33() {
+    for variable in [
+        "$var wire 1 ! a $end",
+        "$var Event 1 ! a $end",
+        "$var event 2 ! a $end",
+        "$var event 01 ! a $end",
+        "$var event 1 ! a b $end",
+        "$var event 1 ! a end",
+        "$var event 1 ! $end x",
+        "$var event 1 12345 a $end",
+    ] {
+        let recording = format!(" {variable} {END}");
+        assert_eq!(bare(&recording), refused_run(33, 1, 0), "{variable}");
+    }
+}
+
+#[test]
+fn reading_24_a_name_may_be_end_and_an_id_almost_anything() {
+    let recording = format!("$var event 1 x $end $end {END} #1 1x");
+    assert_eq!(bare(&recording), (ACCEPTED, 1));
+    for id in ["$end", "#", "0", "1", "#12", "$var", "\"", "1234"] {
+        let recording = format!(
+            "$var event 1 {id} a $end $var event 1 b b $end $var event 1 c c $end {END} \
+             #1 1{id} #2 0{id} #3 1{id} 1b"
+        );
+        assert_eq!(verdict(TABLE, &recording), violated(1, 3, 2), "{id}");
+    }
+}
+
+#[test]
+fn reading_24_33_before_34_before_37() {
+    let declare = |count: usize| -> String {
+        let line = |index: usize| format!("$var event 1 i{index} n{index} $end ");
+        (0..count).map(line).collect()
+    };
+    let twice = "$var event 1 ! x $end $var event 2 ! x $end ";
+    assert_eq!(bare(twice), refused_run(33, 22, 0));
+    let full = declare(128);
+    let again = format!("{full}$var event 1 i5 x $end {END}");
+    assert_eq!(bare(&again), refused_run(34, full.len(), 0));
+    let shape = format!("{full}$var event 1 longer x $end {END}");
+    assert_eq!(bare(&shape), refused_run(33, full.len(), 0));
+    assert_eq!(bare(&format!("{full}{END}")), (ACCEPTED, 0));
+    let more = format!("{full}$var event 1 ! x $end {END}");
+    assert_eq!(bare(&more), refused_run(37, full.len(), 0));
+}
+
+#[test]
+fn reading_25_an_id_over_4_bytes_is_33_in_the_header_and_43_in_the_body() {
+    let recording = format!("$var event 1 abcde a $end {END}");
+    assert_eq!(bare(&recording), refused_run(33, 0, 0));
+    let recording = format!("$var event 1 abcd a $end {END} #1 1abcd 0abcd #2 1abcde");
+    let place = recording.len() - 6;
+    assert_eq!(bare(&recording), refused_run(43, place, 1));
+    assert_eq!(body("#1 0aVeryLongIdIndeed"), refused_run(43, 3, 0));
+}
+
+#[test]
+fn reading_26_an_id_declared_before_is_34_also_for_an_ignored_variable() {
+    let recording = format!("$var event 1 ! x $end $var event 1 ! y $end {END}");
+    assert_eq!(bare(&recording), refused_run(34, 22, 0));
+}
+
+#[test]
+fn reading_26_an_unknown_name_may_be_declared_twice_and_a_table_clock_not() {
+    let twice = "$var event 1 ! a $end $var event 1 ? a $end ";
+    assert_eq!(bare(&format!("{twice}{END} #1 1! 1?")), (ACCEPTED, 1));
+    let expected = refused_run(34, 22, 0);
+    assert_eq!(verdict(TABLE, format!("{twice}{END}")), expected);
+}
+
+#[test]
+fn reading_27_what_stands_behind_enddefinitions() {
+    assert_eq!(verdict(TABLE, "$enddefinitions"), refused_run(36, 15, 0));
+    assert_eq!(verdict(TABLE, "$enddefinitions \n"), refused_run(36, 17, 0));
+    assert_eq!(
+        verdict(TABLE, " $enddefinitions #1 $end"),
+        refused_run(32, 1, 0)
+    );
+    assert_eq!(
+        verdict(TABLE, " $enddefinitions $end"),
+        refused_run(35, 1, 0)
+    );
+}
+
+#[test]
+fn a_table_clock_undeclared_is_35_at_enddefinitions() {
+    let some = "$var event 1 ! a $end $var event 1 \" b $end ";
+    let recording = format!("{some}{END} nonsense");
+    assert_eq!(verdict(TABLE, recording), refused_run(35, some.len(), 0));
+    let recording = format!("{some}$var event 1 % C $end {END}");
+    let place = recording.len() - END.len();
+    assert_eq!(verdict(TABLE, recording), refused_run(35, place, 0));
+}
+
+#[test]
+fn reading_28_the_place_of_36_is_the_recordings_length() {
+    for recording in [
+        "",
+        "  \n\n ",
+        "$date x  ",
+        "$date $end \t",
+        "$comment",
+        HEADER,
+    ] {
+        let cut = recording.replace("$enddefinitions $end ", "");
+        assert_eq!(verdict(TABLE, &cut), refused_run(36, cut.len(), 0), "{cut}");
+    }
+}
+
+#[test]
+fn reading_29_after_30_to_37_the_configuration_is_the_start_words() {
+    let table = b"c clockDef await 9 a\nd clockDef a upto c";
+    let sixes = "$var event 1 ! z $end ".repeat(2);
+    for (recording, number) in [
+        (" ".repeat(70_000), 30),
+        ("\u{1}".to_owned(), 31),
+        ("x".to_owned(), 32),
+        ("$var a b c d e".to_owned(), 33),
+        (sixes, 34),
+        (END.to_owned(), 35),
+        (String::new(), 36),
+    ] {
+        let report = run(table, recording.as_bytes());
+        assert!(matches!(report.verdict, Verdict::Refused(refusal) if refusal.number == number));
+        assert_eq!((report.steps, report.constraints), (0, 2));
+        assert_eq!(report.configuration, words(&[9, 1]));
+    }
+}
+
+#[test]
+fn reading_30_words_that_are_neither_mark_nor_change_are_40() {
+    for word in [
+        "1", "0", "#", "#x", "#1x", "#-1", "#+1", "#1.5", "x!", "2!", "z!", "b1", "!", "$",
+    ] {
+        assert_eq!(
+            body(&format!("#1 {word} #2")),
+            refused_run(40, 3, u64::from(word.starts_with('#'))),
+            "{word}"
+        );
+    }
+}
+
+#[test]
+fn reading_30_a_mark_with_a_byte_that_is_no_digit_is_40_before_41() {
+    assert_eq!(body("#5 #4x"), refused_run(40, 3, 1));
+    let long = "9".repeat(40);
+    assert_eq!(body(&format!("#5 #{long}x")), refused_run(40, 3, 1));
+    assert_eq!(body(&format!("#5 #{long}")), refused_run(41, 3, 1));
+}
+
+#[test]
+fn reading_31_any_word_that_opens_with_a_hash_judges_the_open_step_first() {
+    for mark in ["#", "#x", "#0", "#9", "#99999999999999999999"] {
+        let bad = format!("#0 #1 1! 1\" {mark}");
+        assert_eq!(body(&bad), violated(1, 1, 1), "{mark}");
+    }
+    assert_eq!(body("#0 1! #"), refused_run(40, 6, 1));
+    assert_eq!(body("#0 1! #0"), refused_run(41, 6, 1));
+}
+
+#[test]
+fn reading_31_any_other_bad_word_leaves_the_open_step_unjudged() {
+    assert_eq!(body("#0 #1 1! 1\" x"), refused_run(40, 12, 1));
+    assert_eq!(body("#0 #1 1! 1\" 1?"), refused_run(43, 12, 1));
+    assert_eq!(body("#0 #1 1! 1\" 1!"), refused_run(44, 12, 1));
+    assert_eq!(body("#0 1! 1?"), refused_run(43, 6, 0));
+}
+
+#[test]
+fn reading_32_leading_zeros_are_fine_in_a_time() {
+    assert_eq!(body("#00 #0001 #2"), (ACCEPTED, 3));
+    let zeros = "0".repeat(100);
+    assert_eq!(body(&format!("#{zeros}7 1! 1\"")), violated(1, 7, 0));
+    assert_eq!(body("#0 #00"), refused_run(41, 3, 1));
+    assert_eq!(body("#9 #08"), refused_run(41, 3, 1));
+}
+
+#[test]
+fn reading_32_the_first_mark_has_no_last_time() {
+    assert_eq!(body("#0"), (ACCEPTED, 1));
+    assert_eq!(body("#0 #1"), (ACCEPTED, 2));
+}
+
+#[test]
+fn reading_33_40_before_42_before_43_before_44() {
+    assert_eq!(body("1"), refused_run(40, 0, 0));
+    assert_eq!(body("1! #1"), refused_run(42, 0, 0));
+    assert_eq!(body("0! #1"), refused_run(42, 0, 0));
+    assert_eq!(body("1? #1"), refused_run(42, 0, 0));
+    assert_eq!(body("#1 1?"), refused_run(43, 3, 0));
+    assert_eq!(body("#1 0?"), refused_run(43, 3, 0));
+    assert_eq!(body("#1 1! 1!"), refused_run(44, 6, 0));
+}
+
+#[test]
+fn reading_34_a_zero_takes_no_tick_back() {
+    assert_eq!(body("#1 1! 0! 1!"), refused_run(44, 9, 0));
+    assert_eq!(body("#1 1! 0! 1\""), violated(1, 1, 0));
+    assert_eq!(body("#1 0! 0! 0! 1! #2 1!"), (ACCEPTED, 2));
+}
+
+#[test]
+fn reading_35_an_ignored_variable_may_tick_any_number_of_times() {
+    let recording = format!("$var event 1 ? x $end {HEADER}#1 1? 1? 0? 1? 1! #2 1?");
+    assert_eq!(verdict(TABLE, recording), (ACCEPTED, 2));
+}
+
+#[test]
+fn reading_36_with_no_mark_the_recording_is_accepted_with_the_start_words() {
+    let report = run(b"c clockDef a sampled b", HEADER.as_bytes());
+    assert_eq!((report.verdict, report.steps), (ACCEPTED, 0));
+    assert_eq!(report.configuration, words(&[2]));
+}
+
+#[test]
+fn the_last_step_is_judged_though_no_mark_follows() {
+    assert_eq!(body("#1 #2 1!"), (ACCEPTED, 2));
+    assert_eq!(body("#1 #2 1! 1\""), violated(1, 2, 1));
+}
+
+#[test]
+fn a_mark_without_ticks_is_an_empty_step() {
+    assert_eq!(body("#1 #2 #3"), (ACCEPTED, 3));
+}
+
+#[test]
+fn ids_name_variables_and_not_the_order_of_declaration() {
+    let recording = "$var event 1 z c $end $var event 1 a b $end $var event 1 b a $end \
+                     $enddefinitions $end #1 1b #2 1a #3 1z 1a #4 1z 1b";
+    assert_eq!(verdict(TABLE, recording), violated(2, 4, 3));
+}
+
+#[test]
+fn a_violation_gives_the_table_line_and_not_the_record() {
+    let table = "\n\na # b\n\na # c";
+    let recording = format!("{HEADER}#7 1! 1%");
+    assert_eq!(verdict(table, recording), violated(5, 7, 0));
+}
+
+#[test]
+fn a_stop_gives_the_steps_accepted_so_far_and_the_configuration_after_them() {
+    let table = b"a strictly precedes b\nc clockDef await 3 a";
+    let start = format!("{HEADER}#1 1! #2 1! #3");
+    for stop in [" 1\" 1%", " x", " 1\" 1\"", " 1?"] {
+        let report = run(table, format!("{start}{stop}").as_bytes());
+        assert_ne!(report.verdict, ACCEPTED, "{stop}");
+        assert_eq!(report.steps, 2, "{stop}");
+        assert_eq!(report.configuration, words(&[2, 1]), "{stop}");
+    }
+    let report = run(table, format!("{start} 1\" #3").as_bytes());
+    assert_eq!(report.steps, 3);
+    assert_eq!(report.configuration, words(&[1, 1]));
+}
+
+#[test]
+fn the_step_count_and_the_recorded_time_are_kept_apart() {
+    let report = run(
+        b"a # b",
+        format!("{HEADER}#100 #2000 #30000 1! 1\"").as_bytes(),
+    );
+    assert_eq!(
+        report.verdict,
+        Verdict::Violated {
+            line: 1,
+            time: 30000
+        }
+    );
+    assert_eq!(report.steps, 2);
+}
