@@ -94,8 +94,8 @@ uint32_t ccsl_read_table(const uint8_t *text, size_t text_len,
 /* One step on a configuration, which is moved where it stands if the step is accepted, and left alone else. Clock k ticks where bit k of
  * `ticks` is 1. records_len counts numbers, six a record. A clock count above 255 counts as 255, which is refused.
  * answer, 3 numbers: CCSL_ACCEPTED, 0, 0; or CCSL_VIOLATED, the record from 1, 0; or CCSL_REFUSED, the limit's number, the place.
- * CCSL_ANSWER_SHORT, CCSL_WORDS_SHORT, CCSL_RECORDS_RAGGED, CCSL_KIND_UNKNOWN. Of more than 64 records the first 66 are looked at, and
- * the answer is refusal 59. */
+ * CCSL_ANSWER_SHORT, CCSL_WORDS_SHORT, CCSL_RECORDS_RAGGED, CCSL_KIND_UNKNOWN. More than 64 records, all of a known kind, are refused with
+ * 59, at the lowest place. */
 uint32_t ccsl_step(const uint64_t *records, size_t records_len,
                    uint32_t clocks,
                    int64_t *words, size_t words_len,

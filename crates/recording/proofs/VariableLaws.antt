@@ -6,15 +6,15 @@ use mathlib.Core.List.{List, [], _∷_, _++_}
 use Prim.Native.Nat.{ℕ, zero, suc, _+_, _*_, _/_, _%_, _≤_, _<_}
 use native.Mathlib.Numerals.{add-one}
 use native.Mathlib.Omega.{arith}
-use borrow.Author.Tests.{eqb-true, eq-eqb, ne-eqb, ltb-true, lt-ltb, le-leb, lt-leb}
+use borrow.Author.Tests.{eqb-true, eqb-false, ltb-false, eq-eqb, ne-eqb, ltb-true, lt-ltb, le-leb, lt-leb}
 use lib.Dec.{eqb, ltb}
 use lib.ListN.{length, drop, getD, set, drop-of-length-le}
-use lib.Seq.{drop-nil}
+use lib.Seq.{drop-nil, getD-set-same, getD-set-other}
 use Rattle.constraint.proofs.Booleans.{and-l, and-r}
 use Rattle.text.specs.Bytes.{allBytes, sameBytes}
 use Rattle.text.proofs.Bytes.{drop-next, same-equal, equal-same}
 use Rattle.table.specs.declared.Found.the-variants.{At, Nothing}
-use Rattle.recording.specs.Variables.{Variable, withId, lookUp, hasClock, codeOf, digitOf, Bytes, bytesOfCode, variablesOf, allDeclared}
+use Rattle.recording.specs.Variables.{Variable, withId, lookUp, hasClock, codeOf, digitOf, Bytes, bytesOfCode, variablesOf, allDeclared, bucketOf, Starts}
 
 -- ---- ids as numbers
 
@@ -190,3 +190,31 @@ module _ (vs : List Variable) (k j : ℕ) (e : k ≡ j + 1) where
 pub all-none : (vs : List Variable) (k : ℕ) → k ≡ 0 → allDeclared vs k ≡ true
 unfolding allDeclared
 all-none vs k e = rw e
+
+-- ---- where a search begins
+
+-- one variable more: the start of its bucket
+pub starts-more : (n : ℕ) (cs ss : List ℕ) (k i b : ℕ) → i + 1 ≡ k → b ≡ bucketOf (getD cs i 0) → b < length ss → Starts k n cs ss → Starts i n cs (set ss b i)
+starts-more n cs ss k i b next is inside starts j low high = go (eqb (bucketOf (getD cs j 0)) b) refl
+  where
+    go : (x : Bool) → eqb (bucketOf (getD cs j 0)) b ≡ x → getD (set ss b i) (bucketOf (getD cs j 0)) 0 ≤ j
+    go true e = rw (eqb-true (bucketOf (getD cs j 0)) b e, getD-set-same ss b i 0 inside) low
+    go false e =
+        let other = eqb-false (bucketOf (getD cs j 0)) b e in
+        let later : i ≡ j → ⊥ = λ q. other (ap (λ (m : ℕ). bucketOf (getD cs m 0)) (sym q) ∙ sym is) in
+        rw (getD-set-other ss b (bucketOf (getD cs j 0)) i 0 other) (starts j (omega (arith, next, low, later)) high)
+
+-- up to the start of its bucket no variable has the id
+pub starts-skip : (n : ℕ) (cs ks ss w : List ℕ) → n ≤ length cs → n ≤ length ks → length w ≤ 4 → Bytes w → Starts 0 n cs ss
+    → (k : ℕ) → k ≤ getD ss (bucketOf (codeOf w)) 0 → withId (drop k (variablesOf n cs ks)) w ≡ withId (variablesOf n cs ks) w
+starts-skip n cs ks ss w p q short t starts zero low = refl
+starts-skip n cs ks ss w p q short t starts (suc k) low = go (ltb k n) refl ∙ starts-skip n cs ks ss w p q short t starts k (omega (arith, low))
+  where
+    differs : k < n → getD cs k 0 ≡ codeOf w → ⊥
+    differs h e =
+        let past : getD ss (bucketOf (codeOf w)) 0 ≤ k = rw e at (starts k (omega arith) h) in
+        omega (arith, past, low)
+
+    go : (x : Bool) → ltb k n ≡ x → withId (drop (suc k) (variablesOf n cs ks)) w ≡ withId (drop k (variablesOf n cs ks)) w
+    go true e = let h = ltb-true k n e in rw (← add-one k) (sym (id-on n cs ks k w h p q short t (differs h)))
+    go false e = let h = ltb-false k n e in id-none n cs ks (suc k) w (omega (arith, h)) ∙ sym (id-none n cs ks k w h)

@@ -2,9 +2,9 @@
 use mathlib.Core.Path.{_≡_}
 use mathlib.Core.Bool.{Bool, true, false, not, cond, _&&_, _||_}
 use mathlib.Core.List.{List, [], _∷_}
-use Prim.Native.Nat.{ℕ, zero, suc, _+_, _*_, _/_, _%_}
+use Prim.Native.Nat.{ℕ, zero, suc, _+_, _*_, _/_, _%_, _≤_, _<_}
 use lib.Dec.{eqb, ltb, leb}
-use lib.ListN.{length}
+use lib.ListN.{length, getD}
 use Rattle.text.specs.Bytes.{allBytes, sameBytes}
 use Rattle.table.specs.Grammar.{clockOf}
 use Rattle.table.specs.Names.{numberIn}
@@ -81,3 +81,17 @@ variablesOf (suc n) (c ∷ cs) (k ∷ ks) = record { id = bytesOfCode 5 c; clock
 
 abbrev pub declared : Variables → List Variable
 declared v = variablesOf (v .count) (v .ids) (v .clocks)
+
+-- ---- where a search begins
+
+-- ids are parted into 241 buckets, a prime near 256, so that every byte of an id counts
+abbrev pub bucketOf : (code : ℕ) → ℕ
+bucketOf c = c % 241
+
+-- no variable from the index i on stands before the start of its bucket
+abbrev pub Starts : (i count : ℕ) → (ids starts : List ℕ) → Type 0
+Starts i n cs ss = (j : ℕ) → i ≤ j → j < n → getD ss (bucketOf (getD cs j 0)) 0 ≤ j
+
+-- what was found for the number of an id is the clock of the variable with that id
+abbrev pub Finds : List Variable → (sought : ℕ) → Found → Type 0
+Finds vs c found = (w : List ℕ) → c ≡ codeOf w → length w ≤ 4 → Bytes w → found ≡ withId vs w

@@ -17,7 +17,7 @@ ghost use lib.ListN.{length};
 ghost use Rattle.text.specs.Digits.{number};
 ghost use Rattle.recording.specs.Body as b;
 ghost use Rattle.recording.specs.Checks as k;
-ghost use Rattle.recording.specs.Variables.{variablesOf};
+ghost use Rattle.recording.specs.Variables.{Starts, variablesOf};
 
 // Before any mark.
 pub fn unmarked() -> Marked
@@ -135,18 +135,19 @@ fn variable<'a>(
     ids: &'a [u64],
     clocks: &'a [u8],
     count: usize,
+    starts: &'a [u8],
     marked: Marked,
     at: usize,
     ticks: bool,
     id: &[u8],
 ) -> Turn
-    requires { ⌜ (count ≤ length (now ids)) × (count ≤ length (now clocks)) ⌝ }
+    requires { ⌜ (count ≤ length (now ids)) × (count ≤ length (now clocks)) × (241 ≤ length (now starts)) × Starts 0 count (now ids) (now starts) ⌝ }
     ensures { λ r. ⌜ b.turnAs r ≡ b.variableTurn (variablesOf count (now (ids .entry)) (now (clocks .entry))) marked at ticks (now (id .entry)) ⌝ }
 {
     if !marked.begun {
         return stopped(marked, Limit::ChangeBeforeMark, at);
     }
-    found(marked, at, ticks, find_id(ids, clocks, count, id))
+    found(marked, at, ticks, find_id(ids, clocks, count, starts, id))
 }
 
 // A word that opens no mark.
@@ -154,11 +155,12 @@ pub fn change<'a>(
     ids: &'a [u64],
     clocks: &'a [u8],
     count: usize,
+    starts: &'a [u8],
     marked: Marked,
     at: usize,
     word: &[u8],
 ) -> Turn
-    requires { ⌜ (count ≤ length (now ids)) × (count ≤ length (now clocks)) ⌝ }
+    requires { ⌜ (count ≤ length (now ids)) × (count ≤ length (now clocks)) × (241 ≤ length (now starts)) × Starts 0 count (now ids) (now starts) ⌝ }
     ensures { λ r. ⌜ b.turnAs r ≡ b.changeTurn (variablesOf count (now (ids .entry)) (now (clocks .entry))) marked at (now (word .entry)) ⌝ }
 {
     if word.len() < 2 {
@@ -166,8 +168,8 @@ pub fn change<'a>(
     }
     let said = level(word[0]);
     match said {
-        Level::Tick => variable(ids, clocks, count, marked, at, true, &word[1..]),
-        Level::NoTick => variable(ids, clocks, count, marked, at, false, &word[1..]),
+        Level::Tick => variable(ids, clocks, count, starts, marked, at, true, &word[1..]),
+        Level::NoTick => variable(ids, clocks, count, starts, marked, at, false, &word[1..]),
         Level::NoChange => stopped(marked, Limit::BodyWord, at),
     }
 }

@@ -11,6 +11,7 @@ pub use body::opens_mark;
 pub use body::unmarked;
 pub use header::read_header;
 use limit::Place;
+pub use lookup::index;
 use table::Outcome;
 use text::Span;
 

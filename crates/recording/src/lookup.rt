@@ -35,16 +35,33 @@ pub fn code(id: &[u8]) -> u64
     a + 256 * (b + 256 * (c + 256 * d))
 }
 
-// The clock of the variable with an id, among the first count.
-pub fn find_id<'a>(ids: &'a [u64], clocks: &'a [u8], count: usize, id: &[u8]) -> Found
-    requires { ⌜ (count ≤ length (now ids)) × (count ≤ length (now clocks)) ⌝ }
-    ensures { λ r. ⌜ r ≡ v.lookUp (v.variablesOf count (now (ids .entry)) (now (clocks .entry))) (now (id .entry)) ⌝ }
+// The bucket of an id's number, below 241.
+fn bucket(code: u64) -> usize
+    ensures { λ r. ⌜ (r ≡ v.bucketOf code) × (r < 241) ⌝ }
 {
-    if 4 < id.len() {
-        return Found::Nothing;
+    (code % 241) as usize
+}
+
+// Where each bucket starts: the lowest index of a variable in it, among the first count.
+pub fn index(ids: &[u64], count: usize) -> [u8; 241]
+    requires { ⌜ (count ≤ length (now ids)) × (count ≤ 128) ⌝ }
+    ensures { λ r. ⌜ v.Starts 0 count (now (ids .entry)) r ⌝ }
+{
+    let mut starts = [0; 241];
+    let mut i = count;
+    while 0 < i {
+        i -= 1;
+        starts[bucket(ids[i])] = i as u8;
     }
-    let sought = code(id);
-    let mut i: usize = 0;
+    starts
+}
+
+// The clock of the variable with an id's number, among the first count from an index on.
+fn search<'a>(ids: &'a [u64], clocks: &'a [u8], count: usize, from: usize, sought: u64) -> Found
+    requires { ⌜ (count ≤ length (now ids)) × (count ≤ length (now clocks)) ⌝ }
+    ensures { λ r. ⌜ v.Finds (drop from (v.variablesOf count (now (ids .entry)) (now (clocks .entry)))) sought r ⌝ }
+{
+    let mut i = from;
     while i < count {
         if ids[i] == sought {
             return Found::At(clocks[i]);
@@ -54,12 +71,40 @@ pub fn find_id<'a>(ids: &'a [u64], clocks: &'a [u8], count: usize, id: &[u8]) ->
     Found::Nothing
 }
 
+// The clock of the variable with an id, among the first count.
+pub fn find_id<'a>(
+    ids: &'a [u64],
+    clocks: &'a [u8],
+    count: usize,
+    starts: &'a [u8],
+    id: &[u8],
+) -> Found
+    requires { ⌜ (count ≤ length (now ids)) × (count ≤ length (now clocks)) × (241 ≤ length (now starts)) × v.Starts 0 count (now ids) (now starts) ⌝ }
+    ensures { λ r. ⌜ r ≡ v.lookUp (v.variablesOf count (now (ids .entry)) (now (clocks .entry))) (now (id .entry)) ⌝ }
+{
+    if 4 < id.len() {
+        return Found::Nothing;
+    }
+    let sought = code(id);
+    let from = wide(starts[bucket(sought)]) as usize;
+    search(ids, clocks, count, from, sought)
+}
+
 // Whether an id was declared.
 pub fn is_declared(variables: Variables, id: &[u8]) -> bool
     requires { ⌜ variables .count ≤ 128 ⌝ }
     ensures { λ r. ⌜ r ≡ v.isDeclared (v.lookUp (v.declared variables) (now (id .entry))) ⌝ }
 {
-    let found = find_id(&variables.ids, &variables.clocks, variables.count, id);
+    if 4 < id.len() {
+        return false;
+    }
+    let found = search(
+        &variables.ids,
+        &variables.clocks,
+        variables.count,
+        0,
+        code(id),
+    );
     match found {
         Found::At(_) => true,
         Found::Nothing => false,

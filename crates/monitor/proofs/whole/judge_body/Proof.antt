@@ -24,28 +24,28 @@ use Rattle.monitor.proofs.whole.judge_body.Statement.{statement}
 use Rattle.monitor.proofs.whole.judge_body.Tie as tie
 
 abbrev Inv-loop : tie.InvT-loop
-Inv-loop recording from records count variables body₀ at₀ body at =
+Inv-loop recording from records count variables starts body₀ at₀ body at =
     Kept (slots count records) at body
     × (body .steps .0 ≤ length recording)
     × (judgeFrom (slots count records) (declared variables) recording body (words recording at) ≡ judgeFrom (slots count records) (declared variables) recording body₀ (words recording from))
 
 abbrev μ-loop : tie.MeasureT-loop
-μ-loop recording from records count variables body₀ at₀ body at = length recording - at
+μ-loop recording from records count variables starts body₀ at₀ body at = length recording - at
 
 -- what is left is what was to be judged
 from-start : (l : tie.At-loop Inv-loop μ-loop) →
-    let s = l .before .before .before .args in
+    let s = l .before .before .before .before .before .before .before .args in
     judgeFrom (slots (s .count) (s .records)) (declared (s .t3)) (now (s .recording)) (l .loop .body) (words (now (s .recording)) (l .loop .at))
     ≡ judgeFrom (slots (s .count) (s .records)) (declared (s .t3)) (now (s .recording)) (begins (s .configuration)) (words (now (s .recording)) (s .from))
 from-start l = l .loop .inv .2 ∙ rw (l .before .unmarked .ensures)
 
 loop-holds : tie.Need-loop-holds Inv-loop μ-loop
-loop-holds c = (record { ready = c .before .before .pre .3; few = omega arith }, omega arith, refl)
+loop-holds c = (record { ready = c .before .before .before .before .before .before .pre .3; few = omega arith }, omega arith, refl)
 
 close-requires : tie.Need-close-requires Inv-loop μ-loop
 close-requires c κs =
     let l = c .before .before .before .before in
-    let s = l .before .before .before in
+    let s = l .before .before .before .before .before .before .before in
     (s .pre .2, l .loop .inv .0 .ready, omega (arith, l .loop .inv .1, s .pre .0))
 
 returns : tie.Need-returns Inv-loop μ-loop
@@ -56,7 +56,7 @@ returns c =
     c .report .ensures ∙ ap (ran _) (ap endOf (c .before .close .ensures) ∙ sym (run-ends _ _ _ _ _ none) ∙ from-start l)
 
 -- the word at hand opens a mark
-opens : (c : tie.After-part2 Inv-loop μ-loop) → opensMark (bytesOf (now (c .before .before .before .before .before .before .before .before .before .before .before .args .recording)) (c .before .before .before .before .before .before .next-word .result)) ≡ true
+opens : (c : tie.After-part2 Inv-loop μ-loop) → opensMark (bytesOf (now (c .before .before .before .before .before .before .before .before .before .before .before .before .before .before .before .args .recording)) (c .before .before .before .before .before .before .next-word .result)) ≡ true
 opens c =
     let o = c .before .before in
     rw (o .before .part .ensures) at (sym (o .opens-mark .ensures) ∙ c .before .if2 .taken)
@@ -64,12 +64,12 @@ opens c =
 mark-step-requires : tie.Need-mark-step-requires Inv-loop μ-loop
 mark-step-requires c κs =
     let l = c .before .before .before .before .before .before .before .before in
-    let s = l .before .before .before in
+    let s = l .before .before .before .before .before .before .before in
     (s .pre .2, l .loop .inv .0 .ready, omega (arith, l .loop .inv .1, s .pre .0), rw (c .part2 .ensures) (opens-byte (bytesOf (now (s .args .recording)) (c .before .before .before .before .before .before .next-word .result)) (opens c)))
 
 -- what the mark does
 marks : (c : tie.After-mark-step Inv-loop μ-loop) →
-    let s = c .before .before .before .before .before .before .before .before .before .before .before .before .args in
+    let s = c .before .before .before .before .before .before .before .before .before .before .before .before .before .before .before .before .args in
     let w = c .before .before .before .before .before .before .before .next-word .result in
     c .mark-step .result ≡ markStep (slots (s .count) (s .records)) (c .before .before .before .before .before .before .before .before .before .loop .body) (w .start) (bytesOf (now (s .recording)) w)
 marks c = c .mark-step .ensures ∙ rw (c .before .part2 .ensures)
@@ -94,7 +94,7 @@ loop-again c =
     let g = e .before in
     let m = g .before in
     let l = m .before .before .before .before .before .before .before .before .before in
-    let s = l .before .before .before .args in
+    let s = l .before .before .before .before .before .before .before .args in
     let n = m .before .before .before .before .before .before .before in
     let w = n .next-word in
     let forward = w .ensures .forward (n .before .loop-test .taken) in
@@ -105,39 +105,44 @@ loop-again c =
       sym (mark-on _ _ _ _ _ _ (w .result) some (opens (m .before)) _ (marks m) (sym (g .goes-on .ensures) ∙ not-false (g .goes-on .result) (e .if3 .left))) ∙ l .loop .inv .2,
     )
 
+change-requires : tie.Need-change-requires Inv-loop μ-loop
+change-requires c κs =
+    let l = c .before .before .before .before .before .before .before .before .before .before .before .before .before .before .before in
+    (search needs, search needs, search needs, l .before .before .index .ensures)
+
 -- the word at hand opens no mark, and what it does
 module _ (c : tie.After-change Inv-loop μ-loop) where
-  opens-not : opensMark (bytesOf (now (c .before .before .before .before .before .before .before .before .before .before .before .before .before .before .before .before .before .before .args .recording)) (c .before .before .before .before .before .before .before .before .before .before .before .before .before .next-word .result)) ≡ false
-  opens-not = let o = c .before .before .before .before .before .before .before .before .before in rw (o .before .part .ensures) at (sym (o .opens-mark .ensures) ∙ c .before .before .before .before .before .before .before .before .if2 .left)
+  opens-not : opensMark (bytesOf (now (c .before .before .before .before .before .before .before .before .before .before .before .before .before .before .before .before .before .before .before .before .before .before .before .args .recording)) (c .before .before .before .before .before .before .before .before .before .before .before .before .before .before .next-word .result)) ≡ false
+  opens-not = let o = c .before .before .before .before .before .before .before .before .before .before in rw (o .before .part .ensures) at (sym (o .opens-mark .ensures) ∙ c .before .before .before .before .before .before .before .before .before .if2 .left)
 
   changes :
-      let s = c .before .before .before .before .before .before .before .before .before .before .before .before .before .before .before .before .before .before .args in
-      let w = c .before .before .before .before .before .before .before .before .before .before .before .before .before .next-word .result in
-      turnAs (c .change .result) ≡ changeTurn (declared (s .t3)) (c .before .before .before .before .before .before .before .before .before .before .before .before .before .before .before .loop .body .marked) (w .start) (bytesOf (now (s .recording)) w)
+      let s = c .before .before .before .before .before .before .before .before .before .before .before .before .before .before .before .before .before .before .before .before .before .before .before .args in
+      let w = c .before .before .before .before .before .before .before .before .before .before .before .before .before .before .next-word .result in
+      turnAs (c .change .result) ≡ changeTurn (declared (s .t3)) (c .before .before .before .before .before .before .before .before .before .before .before .before .before .before .before .before .loop .body .marked) (w .start) (bytesOf (now (s .recording)) w)
   changes = c .change .ensures ∙ rw (c .before .part3 .ensures)
 
 returns-3 : tie.Need-returns-3 Inv-loop μ-loop
 returns-3 c =
     let t = c .before in
     let k = t .before .before .before in
-    let l = k .before .before .before .before .before .before .before .before .before .before .before .before .before .before .before in
-    let w = k .before .before .before .before .before .before .before .before .before .before .before .before .before .next-word in
-    let some = is-word _ (inClass Parting) _ (w .result) (w .ensures) (k .before .before .before .before .before .before .before .before .before .before .before .if1 .left) in
+    let l = k .before .before .before .before .before .before .before .before .before .before .before .before .before .before .before .before in
+    let w = k .before .before .before .before .before .before .before .before .before .before .before .before .before .before .next-word in
+    let some = is-word _ (inClass Parting) _ (w .result) (w .ensures) (k .before .before .before .before .before .before .before .before .before .before .before .before .if1 .left) in
     c .report3 .ensures ∙ ap (ran _) (ap endOf (t .turned .ensures) ∙ sym (change-stop _ _ _ _ _ _ (w .result) some (opens-not k) _ (changes k) _ (t .before .enum-told .given .1)) ∙ from-start l)
 
 loop-less-2 : tie.Need-loop-less-2 Inv-loop μ-loop
 loop-less-2 c =
-    let w = c .before .before .before .before .before .before .before .before .before .before .before .before .before .before .before .before in
+    let w = c .before .before .before .before .before .before .before .before .before .before .before .before .before .before .before .before .before in
     omega (arith, w .next-word .ensures .forward (w .before .loop-test .taken), w .before .loop-test .taken)
 
 loop-again-2 : tie.Need-loop-again-2 Inv-loop μ-loop
 loop-again-2 c =
     let k = c .before .before .before in
-    let l = k .before .before .before .before .before .before .before .before .before .before .before .before .before .before .before in
-    let n = k .before .before .before .before .before .before .before .before .before .before .before .before .before in
+    let l = k .before .before .before .before .before .before .before .before .before .before .before .before .before .before .before .before in
+    let n = k .before .before .before .before .before .before .before .before .before .before .before .before .before .before in
     let w = n .next-word in
     let forward = w .ensures .forward (n .before .loop-test .taken) in
-    let some = is-word _ (inClass Parting) _ (w .result) (w .ensures) (k .before .before .before .before .before .before .before .before .before .before .before .if1 .left) in (
+    let some = is-word _ (inClass Parting) _ (w .result) (w .ensures) (k .before .before .before .before .before .before .before .before .before .before .before .before .if1 .left) in (
       record { ready = l .loop .inv .0 .ready; few = omega (arith, l .loop .inv .0 .few, forward) },
       l .loop .inv .1,
       sym (change-on _ _ _ _ _ _ (w .result) some (opens-not k) _ (changes k) (c .before .enum-told2 .given .1)) ∙ l .loop .inv .2,
@@ -146,7 +151,7 @@ loop-again-2 c =
 close-requires-2 : tie.Need-close-requires-2 Inv-loop μ-loop
 close-requires-2 c κs =
     let l = c .before in
-    let s = l .before .before .before in
+    let s = l .before .before .before .before .before .before .before in
     (s .pre .2, l .loop .inv .0 .ready, omega (arith, l .loop .inv .1, s .pre .0))
 
 returns-4 : tie.Need-returns-4 Inv-loop μ-loop
@@ -160,6 +165,7 @@ judge-body-spec =
     (tie.spec
     Inv-loop
     μ-loop
+    (λ c κs. search needs)
     (λ c κs. search needs)
     loop-holds
     (λ c κs. search needs)
@@ -175,8 +181,9 @@ judge-body-spec =
     returns-2
     loop-less
     loop-again
+    (λ c. search needs)
     (λ c κs. search needs)
-    (λ c κs. search needs)
+    change-requires
     (λ c. search needs)
     (λ c κs. search needs)
     (λ c κs. search needs)
