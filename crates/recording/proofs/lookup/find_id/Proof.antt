@@ -22,7 +22,7 @@ returns-2 c =
     let w = now (a .id) in
     c .search .ensures w (k .0) (e .if1 .left) (k .1)
     ∙ starts-skip (a .count) (now (a .ids)) (now (a .clocks)) (now (a .starts)) w (s .pre .0) (s .pre .1) (e .if1 .left) (k .1) (s .pre .3) (c .before .wide .result)
-      (le-of-eq (wide ∙ ap (λ i. getD (now (a .starts)) i 0) (b .bucket .ensures .0 ∙ ap bucketOf (k .0))))
+    (le-of-eq (wide ∙ ap (λ i. getD (now (a .starts)) i 0) (b .bucket .ensures .0 ∙ ap bucketOf (k .0))))
     ∙ sym (look-short _ _ (e .if1 .left))
 
 pub find-id-spec : {M : Type 1} → statement M
