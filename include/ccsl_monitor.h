@@ -1,14 +1,14 @@
 /* The checker for C: a table of clock constraints and a recording of ticks are read and judged by code that is proved to meet its
  * contract (crates/monitor_c). Numbers come in and go out in lists, which the caller owns.
  *
- * Every call returns a status. CCSL_DONE: the answer was written. Any other: a list that was handed in has not the shape that the call
- * asks for, and nothing was written.
+ * Every call returns a status. CCSL_DONE: the answer was written, and the other lists that the call writes. Any other: a list that was
+ * handed in has not the shape that the call asks for, and nothing was written.
  *
  * A pointer is never NULL, also where its length is 0. A list that a call writes overlaps no other list of the same call. Lengths count
  * elements. Of a list that is longer than the call needs, the rest is left alone.
  *
- * A table's text and a recording may hold any bytes. So may every number be any number: what breaks a limit is refused, with the limit's
- * number and place (docs/refusals.md). */
+ * A table's text and a recording may hold any bytes, and a list any numbers: what breaks a limit is refused, with the limit's number and
+ * place (docs/refusals.md). Only a record's kind has to be one of those below. */
 #ifndef CCSL_MONITOR_H
 #define CCSL_MONITOR_H
 
@@ -26,8 +26,8 @@ enum {
     CCSL_WORDS_SHORT = 2,    /* a configuration has fewer than CCSL_WORDS words */
     CCSL_RECORDS_SHORT = 3,  /* ccsl_read_table: `records` has fewer than CCSL_RECORDS * CCSL_RECORD numbers */
     CCSL_NAMES_SHORT = 4,    /* ccsl_read_table: `names` has fewer than CCSL_CLOCKS * 2 numbers */
-    CCSL_RECORDS_RAGGED = 5, /* the numbers of `records` do not come in sixes */
-    CCSL_KIND_UNKNOWN = 6    /* a record's kind is above CCSL_UPTO */
+    CCSL_RECORDS_RAGGED = 5, /* ccsl_step, ccsl_same_place: the numbers of `records` do not come in sixes */
+    CCSL_KIND_UNKNOWN = 6    /* the same calls: a record's kind is above CCSL_UPTO */
 };
 
 /* The first number of every answer. */
@@ -71,8 +71,8 @@ enum {
 
 /* Judges a recording by a table.
  * answer, 5 numbers: CCSL_ACCEPTED, 0, 0; or CCSL_VIOLATED, the table line, the recorded time; or CCSL_REFUSED, the limit's number, the
- * place; then the number of accepted steps, and the number of constraints, 0 where the table was refused.
- * words, 64 words: the configuration after the accepted steps.
+ * place; then the number of accepted steps and the number of constraints, both 0 where the table was refused.
+ * words, 64 words: the configuration after the accepted steps, all 0 where the table was refused.
  * CCSL_ANSWER_SHORT, CCSL_WORDS_SHORT. */
 uint32_t ccsl_run(const uint8_t *table, size_t table_len,
                   const uint8_t *recording, size_t recording_len,
@@ -80,11 +80,11 @@ uint32_t ccsl_run(const uint8_t *table, size_t table_len,
                   int64_t *words, size_t words_len);
 
 /* Reads a table.
- * answer, 5 numbers: CCSL_ACCEPTED, 0, 0; or CCSL_REFUSED, the limit's number, the line; then the number of constraints and the number of
- * clocks, both 0 where the table was refused.
+ * answer, 5 numbers: CCSL_ACCEPTED, 0, 0; or CCSL_REFUSED, the limit's number, the line, from 1, or 0 where the text is too long; then the
+ * number of constraints and the number of clocks, both 0 where the table was refused.
  * records, 64 records of 6 numbers in table order; those behind the last are empty, with six zeros.
- * names, 32 pairs in the order of the clocks' numbers: the offsets in the text at which the clock's name starts and ends where it first
- * stands; zeros behind the last.
+ * names, 32 pairs in the order of the clocks' numbers: the offset in the text at which the clock's name starts where it first stands, and
+ * the offset behind its last byte; zeros behind the last.
  * CCSL_ANSWER_SHORT, CCSL_RECORDS_SHORT, CCSL_NAMES_SHORT. */
 uint32_t ccsl_read_table(const uint8_t *text, size_t text_len,
                          uint64_t *answer, size_t answer_len,
@@ -92,7 +92,7 @@ uint32_t ccsl_read_table(const uint8_t *text, size_t text_len,
                          uint64_t *names, size_t names_len);
 
 /* One step on a configuration, which is moved where it stands if the step is accepted, and left alone else. Clock k ticks where bit k of
- * `ticks` is 1. records_len counts numbers, six a record. A clock count above 255 counts as 255, which is refused.
+ * `ticks` is 1. records_len counts numbers, six a record.
  * answer, 3 numbers: CCSL_ACCEPTED, 0, 0; or CCSL_VIOLATED, the record from 1, 0; or CCSL_REFUSED, the limit's number, the place.
  * CCSL_ANSWER_SHORT, CCSL_WORDS_SHORT, CCSL_RECORDS_RAGGED, CCSL_KIND_UNKNOWN. More than 64 records, all of a known kind, are refused with
  * 59, at the lowest place. */
@@ -102,7 +102,8 @@ uint32_t ccsl_step(const uint64_t *records, size_t records_len,
                    uint32_t ticks,
                    uint64_t *answer, size_t answer_len);
 
-/* Whether two configurations stand at the same place: no record, judged by itself, tells them apart by any continuation.
+/* Whether two configurations stand at the same place: no record, judged by itself, tells them apart by any continuation. All of the first
+ * configuration is tested before the second.
  * answer, 3 numbers: CCSL_ACCEPTED, 0, 0, the same; or CCSL_VIOLATED, 0, 0, different; or CCSL_REFUSED, the limit's number, the place.
  * CCSL_ANSWER_SHORT, CCSL_WORDS_SHORT, CCSL_RECORDS_RAGGED, CCSL_KIND_UNKNOWN, as in ccsl_step. */
 uint32_t ccsl_same_place(const uint64_t *records, size_t records_len,

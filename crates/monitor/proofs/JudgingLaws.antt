@@ -26,8 +26,8 @@ use Rattle.monitor.specs.Million.{inMillion, firstPast}
 use Rattle.monitor.specs.Run.{Said, violated, endingSaid, lineOf, afterStep, judgeAll, recordsOf, startOf}
 use Rattle.monitor.specs.Step.{firstFailing, moved, judged}
 use Rattle.monitor.specs.declared.Outcome.the-variants.{Held, Failed, Full}
-use Rattle.monitor.proofs.MillionLaws.{out-is-past}
-use Rattle.monitor.proofs.StepLaws.{judged-failed, judged-full, judged-held}
+use Rattle.monitor.proofs.MillionLaws.{out-after}
+use Rattle.monitor.proofs.StepLaws.{Finds, finds-failing, finds-past, judged-failed, judged-full, judged-held}
 
 -- ---- the first record that does not pass a test, the first of these having the place i
 
@@ -87,17 +87,13 @@ getD-slots (suc n) (r ∷ rs) (suc i) h = getD-slots n rs i (omega arith)
 
 -- with the word f r of each slot r
 module _ (f : Constraint → Word) where
-  failing-slot : (F : Ticks) (i n : ℕ) (rs : List Constraint) → length rs ≤ n → firstFailing F i rs (map f (slots n rs)) ≡ firstNot (λ r. holds r (f r) F) i (slots n rs)
-  failing-slot F i zero [] h = refl
-  failing-slot F i zero (r ∷ rs) h = absurd (omega arith)
-  failing-slot F i (suc n) [] h = failing-slot F (suc i) n [] (omega arith)
-  failing-slot F i (suc n) (r ∷ rs) h = rw (failing-slot F (suc i) n rs (omega arith))
-
-  past-slot : (i n : ℕ) (rs : List Constraint) → length rs ≤ n → firstPast i rs (map f (slots n rs)) ≡ firstNot (λ r. inMillion r (f r)) i (slots n rs)
-  past-slot i zero [] h = refl
-  past-slot i zero (r ∷ rs) h = absurd (omega arith)
-  past-slot i (suc n) [] h = past-slot (suc i) n [] (omega arith)
-  past-slot i (suc n) (r ∷ rs) h = rw (past-slot (suc i) n rs (omega arith))
+  -- of a test that an empty slot passes
+  found-slot : {test : Constraint → Word → Bool} {first : (i : ℕ) → List Constraint → List Word → Broken} → Finds test first → ((w : Word) → test empty w ≡ true)
+      → (i n : ℕ) (rs : List Constraint) → length rs ≤ n → first i rs (map f (slots n rs)) ≡ firstNot (λ r. test r (f r)) i (slots n rs)
+  found-slot finds e i zero [] h = finds .at-end i []
+  found-slot finds e i zero (r ∷ rs) h = absurd (omega arith)
+  found-slot finds e i (suc n) [] h = rw (e (f empty)) (finds .at-end i _ ∙ sym (finds .at-end (suc i) _) ∙ found-slot finds e (suc i) n [] (omega arith))
+  found-slot finds e i (suc n) (r ∷ rs) h = finds .at-one i r rs _ _ ∙ rw (found-slot finds e (suc i) n rs (omega arith))
 
   moved-slots : (F : Ticks) (g : Constraint → Word) → ((r : Constraint) → g r ≡ nextWord r (f r) F) → (n : ℕ) (rs : List Constraint) → length rs ≤ n → map g (slots n rs) ≡ moved F rs (map f (slots n rs))
   moved-slots F g e zero [] h = refl
@@ -130,10 +126,10 @@ module _ (n : ℕ) (rs all : List Constraint) (room : length rs ≤ n) (unused :
     all-moved = rw unused (moved-slots (wordAfter ss) F _ (λ r. moved-more r _ ss s) n rs room)
 
     fails-first : firstFailing F 1 rs (after all ss .words) ≡ firstNot (λ r. holds r (wordAfter ss r) F) 1 all
-    fails-first = rw unused (failing-slot (wordAfter ss) F 1 n rs room)
+    fails-first = rw unused (found-slot (wordAfter ss) (finds-failing F) (λ w. refl) 1 n rs room)
 
     past-first : firstPast 1 rs (after all (ss ++ s ∷ []) .words) ≡ firstNot (λ r. inMillion r (wordAfter (ss ++ s ∷ []) r)) 1 all
-    past-first = rw unused (past-slot (wordAfter (ss ++ s ∷ [])) 1 n rs room)
+    past-first = rw unused (found-slot (wordAfter (ss ++ s ∷ [])) finds-past (λ w. refl) 1 n rs room)
 
     step-fails : {r : Constraint} (f : First (HoldsAt ss s) all r) → judged F rs (after all ss) ≡ record { outcome = Failed (placeOf f); configuration = after all ss }
     step-fails f = judged-failed _ rs (after all ss) (placeOf f) (fails-first ∙ first-found _ f)
@@ -144,7 +140,7 @@ module _ (n : ℕ) (rs all : List Constraint) (room : length rs ≤ n) (unused :
       none-fails = fails-first ∙ every-passes _ 1 hold
 
       out-first : brokenWord rs (after all (ss ++ s ∷ []) .words) ≡ firstNot (λ r. inMillion r (wordAfter (ss ++ s ∷ []) r)) 1 all
-      out-first = rw all-moved (out-is-past F 1 rs (after all ss .words) inside none-fails) ∙ past-first
+      out-first = out-after F rs (after all ss .words) _ all-moved inside none-fails ∙ past-first
 
       step-full : {r : Constraint} (f : First (StaysAt ss s) all r) → judged F rs (after all ss) ≡ record { outcome = Full (placeOf f); configuration = after all ss }
       step-full f = judged-full _ rs (after all ss) (after all (ss ++ s ∷ [])) all-moved none-fails (placeOf f) (out-first ∙ first-found _ f)

@@ -1,7 +1,7 @@
 -- A turn of each loop of a step, what each outcome of `judged` is, and what every step leaves: the words in range, and how many there are.
 -- Assumes nothing.
 use mathlib.Core.Path.{_≡_, refl, sym, ap, _∙_}
-use mathlib.Core.Bool.{true, false, cond}
+use mathlib.Core.Bool.{Bool, true, false, cond}
 use mathlib.Core.List.{List, [], _∷_}
 use Prim.Native.Nat.{ℕ, zero, suc, _+_, _<_, _≤_}
 use native.Mathlib.Numerals.{add-one}
@@ -20,30 +20,43 @@ use Rattle.constraint.specs.declared.Word.{Word}
 use Rattle.constraint.proofs.Demand3.{nowhere}
 use Rattle.constraint.proofs.Laws.{holds-none, next-none}
 use Rattle.constraint.proofs.Walk.{getD-any, slots-cons, slots-done}
+use Rattle.monitor.specs.Million.{inMillion, firstPast}
 use Rattle.monitor.specs.Step.{firstFailing, moved, handedBack, judged}
 use Rattle.monitor.specs.declared.Judged.{Judged}
 use Rattle.monitor.specs.declared.Outcome.{Outcome}
 use Rattle.monitor.specs.declared.Outcome.the-variants.{Held, Failed, Full}
 
--- ---- the first record that fails
+-- ---- the first record that fails a test with its word
 
-module _ (F : Ticks) (n : ℕ) (rs : List Constraint) (ws : List Word) (i : ℕ) where
-  pub none-fails : n ≤ i → firstFailing F (i + 1) (drop i (slots n rs)) (drop i ws) ≡ Nowhere
-  none-fails h = rw (slots-done n rs i h)
+-- first finds it, the first of the records having the place i
+pub record Finds (test : Constraint → Word → Bool) (first : (i : ℕ) → List Constraint → List Word → Broken) : Type 0 where
+  pub at-end : (i : ℕ) (ws : List Word) → first i [] ws ≡ Nowhere
+  pub at-one : (i : ℕ) (r : Constraint) (rs : List Constraint) (w : Word) (ws : List Word) → first i (r ∷ rs) (w ∷ ws) ≡ cond (test r w) (first (suc i) rs ws) (at i)
+
+-- the test being that it holds, and that its word is in its million
+pub finds-failing : (F : Ticks) → Finds (λ r w. holds r w F) (firstFailing F)
+finds-failing F = record { at-end = λ i ws. refl; at-one = λ i r rs w ws. refl }
+
+pub finds-past : Finds inMillion firstPast
+finds-past = record { at-end = λ i ws. refl; at-one = λ i r rs w ws. refl }
+
+module _ {test : Constraint → Word → Bool} {first : (i : ℕ) → List Constraint → List Word → Broken} (finds : Finds test first) (n : ℕ) (rs : List Constraint) (ws : List Word) (i : ℕ) where
+  pub none-fails : n ≤ i → first (i + 1) (drop i (slots n rs)) (drop i ws) ≡ Nowhere
+  none-fails h = rw (slots-done n rs i h) (finds .at-end (i + 1) (drop i ws))
 
   module _ (d : Constraint) (v : Word) (more : i < n) (slot : i < length rs) (inside : i < length ws) where
-    holds-turn :
-        firstFailing F (i + 1) (drop i (slots n rs)) (drop i ws)
-        ≡ cond (holds (getD rs i d) (getD ws i v) F) (firstFailing F (i + 1 + 1) (drop (i + 1) (slots n rs)) (drop (i + 1) ws)) (at (i + 1))
-    holds-turn = rw (slots-cons n rs i more, getD-any rs i empty d slot, drop-cons ws i v inside, add-one (i + 1), add-one i) refl
+    test-turn :
+        first (i + 1) (drop i (slots n rs)) (drop i ws)
+        ≡ cond (test (getD rs i d) (getD ws i v)) (first (i + 1 + 1) (drop (i + 1) (slots n rs)) (drop (i + 1) ws)) (at (i + 1))
+    test-turn = rw (slots-cons n rs i more, getD-any rs i empty d slot, drop-cons ws i v inside, add-one (i + 1), add-one i) (finds .at-one _ _ _ _ _)
 
-    pub fails : holds (getD rs i d) (getD ws i v) F ≡ false → firstFailing F (i + 1) (drop i (slots n rs)) (drop i ws) ≡ at (i + 1)
-    fails e = holds-turn ∙ rw e
+    pub fails : test (getD rs i d) (getD ws i v) ≡ false → first (i + 1) (drop i (slots n rs)) (drop i ws) ≡ at (i + 1)
+    fails e = test-turn ∙ rw e
 
     pub not-fails :
-        holds (getD rs i d) (getD ws i v) F ≡ true
-        → firstFailing F (i + 1) (drop i (slots n rs)) (drop i ws) ≡ firstFailing F (i + 1 + 1) (drop (i + 1) (slots n rs)) (drop (i + 1) ws)
-    not-fails e = holds-turn ∙ rw e
+        test (getD rs i d) (getD ws i v) ≡ true
+        → first (i + 1) (drop i (slots n rs)) (drop i ws) ≡ first (i + 1 + 1) (drop (i + 1) (slots n rs)) (drop (i + 1) ws)
+    not-fails e = test-turn ∙ rw e
 
 -- ---- words that limit 60 lets pass
 

@@ -8,7 +8,7 @@ use Rattle.constraint.specs.Lists.{slots}
 use Rattle.constraint.specs.Ticks.{bits}
 use Rattle.constraint.proofs.Walk.{length-mapped}
 use Rattle.monitor.specs.Step.{firstFailing}
-use Rattle.monitor.proofs.StepLaws.{none-fails, fails, not-fails}
+use Rattle.monitor.proofs.StepLaws.{finds-failing, none-fails, fails, not-fails}
 use borrow.Author.Needs.{needs}
 use Rattle.monitor.proofs.judging.first_failing.Statement.{statement}
 use Rattle.monitor.proofs.judging.first_failing.Tie as tie
@@ -28,7 +28,7 @@ returns c =
     let s = l .before .args in
     let p : length (s .t3 .words) ≡ 64 = search (needs, length-mapped) in
     let r = c .before .holds in
-    sym (l .loop .inv .1 ∙ fails (bits (s .ticks)) (s .count) (s .t1) (s .t3 .words) (l .loop .i) _ _ (search needs) (search needs) (omega arith) (sym (r .ensures) ∙ not-true (r .result) (c .if1 .taken)))
+    sym (l .loop .inv .1 ∙ fails (finds-failing (bits (s .ticks))) (s .count) (s .t1) (s .t3 .words) (l .loop .i) _ _ (search needs) (search needs) (omega arith) (sym (r .ensures) ∙ not-true (r .result) (c .if1 .taken)))
 
 loop-again : tie.Need-loop-again Inv-loop μ-loop
 loop-again c =
@@ -36,12 +36,12 @@ loop-again c =
     let s = l .before .args in
     let p : length (s .t3 .words) ≡ 64 = search (needs, length-mapped) in
     let r = c .before .holds in
-    (omega arith, l .loop .inv .1 ∙ not-fails (bits (s .ticks)) (s .count) (s .t1) (s .t3 .words) (l .loop .i) _ _ (search needs) (search needs) (omega arith) (sym (r .ensures) ∙ not-false (r .result) (c .if1 .left)))
+    (omega arith, l .loop .inv .1 ∙ not-fails (finds-failing (bits (s .ticks))) (s .count) (s .t1) (s .t3 .words) (l .loop .i) _ _ (search needs) (search needs) (omega arith) (sym (r .ensures) ∙ not-false (r .result) (c .if1 .left)))
 
 returns-2 : tie.Need-returns-2 Inv-loop μ-loop
 returns-2 c =
     let s = c .before .before .args in
-    sym (c .before .loop .inv .1 ∙ none-fails (bits (s .ticks)) (s .count) (s .t1) (s .t3 .words) (c .before .loop .i) (c .loop-test .left))
+    sym (c .before .loop .inv .1 ∙ none-fails (finds-failing (bits (s .ticks))) (s .count) (s .t1) (s .t3 .words) (c .before .loop .i) (c .loop-test .left))
 
 pub first-failing-spec : {M : Type 1} → statement M
 first-failing-spec =

@@ -4,6 +4,7 @@ use mathlib.Core.Path.{sym, ap, _∙_}
 use Rattle.constraint.specs.Lists.{slots}
 use Rattle.constraint.specs.Ticks.{bits}
 use Rattle.constraint.proofs.TickSets.{bits-zero}
+use Rattle.monitor.proofs.MillionLaws.{out-after}
 use Rattle.monitor.proofs.StepLaws.{judged-failed, judged-full, judged-held, judged-none}
 use borrow.Author.Needs.{needs}
 use Rattle.monitor.proofs.judging.judge.Statement.{statement}
@@ -29,7 +30,8 @@ returns-3 c =
     let f = m .before .before .before in
     let s = f .before .before .args in
     let none-failing = sym (f .first-failing .ensures) ∙ m .before .enum-told .given .1 in
-    let full = sym (b .broken-word .ensures) ∙ c .before .before .place2 .given .1 in
+    let out = out-after (bits (s .ticks)) (slots (s .count) (s .records)) (s .configuration .words) _ (m .moved .ensures) (f .before .before .pre .1) none-failing in
+    let full = out ∙ sym (b .first-past .ensures) ∙ c .before .before .place2 .given .1 in
     c .handed-back3 .ensures ∙ sym (judged-full (bits (s .ticks)) (slots (s .count) (s .records)) (s .configuration) _ (m .moved .ensures) none-failing _ full)
 
 returns-4 : tie.Need-returns-4
@@ -39,7 +41,8 @@ returns-4 c =
     let f = m .before .before .before in
     let s = f .before .before .args in
     let none-failing = sym (f .first-failing .ensures) ∙ m .before .enum-told .given .1 in
-    let none-full = sym (b .broken-word .ensures) ∙ c .before .enum-told2 .given .1 in
+    let out = out-after (bits (s .ticks)) (slots (s .count) (s .records)) (s .configuration .words) _ (m .moved .ensures) (f .before .before .pre .1) none-failing in
+    let none-full = out ∙ sym (b .first-past .ensures) ∙ c .before .enum-told2 .given .1 in
     c .handed-back4 .ensures ∙ sym (judged-held (bits (s .ticks)) (slots (s .count) (s .records)) (s .configuration) _ (m .moved .ensures) none-failing none-full)
 
 pub judge-spec : {M : Type 1} → statement M
@@ -54,7 +57,7 @@ judge-spec =
     returns-2
     (λ c. c .match .keys2)
     (λ c κs. search needs)
-    (λ c κs. tt)
+    (λ c κs. search needs)
     (λ c. c .match2 .keys1)
     (λ c κs. tt)
     returns-3
