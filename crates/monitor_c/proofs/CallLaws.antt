@@ -1,6 +1,6 @@
 -- The checks of each call, in their order, and what it writes where all are passed. Assumes nothing.
-use mathlib.Core.Path.{_≡_, refl, sym, ap, _∙_}
-use mathlib.Core.Bool.{Bool, true, false, not}
+use mathlib.Core.Path.{_≡_, refl}
+use mathlib.Core.Bool.{true, false}
 use mathlib.Core.List.{List, [], _∷_}
 use Prim.Native.Nat.{ℕ, _%_, _≤_, _<_}
 use native.Mathlib.Omega.{arith}
@@ -12,7 +12,7 @@ use Rattle.table.specs.Reader.{readTable}
 use Rattle.monitor.specs.Run.{runOf}
 use Rattle.monitor.specs.Single.{stepOf}
 use Rattle.monitor_c.specs.declared.Three.{Three}
-use Rattle.monitor_c.specs.Calls.{written, done, answerShort, wordsShort, recordsShort, namesShort, recordsRagged, kindUnknown, left, runLeft, runInto, tableLeft, readLeft, readInto, stepLeft, stepInto, answerLeft, placeLeft, placeInto}
+use Rattle.monitor_c.specs.Calls.{written, answerShort, wordsShort, recordsShort, namesShort, recordsRagged, kindUnknown, left, runLeft, runInto, tableLeft, readLeft, readInto, stepLeft, stepInto, answerLeft, placeLeft, placeInto}
 use Rattle.monitor_c.specs.Numbers.{clockOf, recordsOf, kindsKnown, configurationOf, threeAnd}
 
 -- an answer of three numbers, with two behind it

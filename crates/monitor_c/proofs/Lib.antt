@@ -1,3 +1,4 @@
 pub mod CallLaws
 pub mod ListLaws
+pub mod ReadBack
 pub mod RecordLaws

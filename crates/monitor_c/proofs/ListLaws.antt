@@ -5,7 +5,7 @@ use Prim.Native.Nat.{ℕ, zero, suc, _+_, _*_, _≤_, _<_}
 use native.Mathlib.Nat.{zero-add}
 use native.Mathlib.Numerals.{add-one}
 use native.Mathlib.Omega.{arith}
-use lib.ListN.{length, drop, take, getD, set, length-set, length-take, length-replicate, replicate, take-append-drop, List·getD-map}
+use lib.ListN.{length, drop, take, getD, set, take-append-drop}
 use lib.Seq.{sets, sets-eq, set-out, drop-cons, length-take-le, length-sets, drop-length}
 use Rattle.text.specs.declared.Span.{Span}
 use Rattle.constraint.specs.declared.Constraint.{Constraint}

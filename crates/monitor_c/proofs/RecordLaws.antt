@@ -1,12 +1,12 @@
 -- Records in sixes of numbers: one more, none left, how many; and the records that a doorway lends, the first 66. Assumes nothing.
 use mathlib.Core.Path.{_≡_, refl, sym, ap, _∙_}
 use mathlib.Core.Bool.{Bool, true, false, cond}
-use mathlib.Core.List.{List, [], _∷_, map}
+use mathlib.Core.List.{List, [], _∷_}
 use Prim.Native.Nat.{ℕ, zero, suc, _+_, _*_, _/_, _≤_, _<_}
 use native.Mathlib.Omega.{arith}
 use borrow.Author.Tests.{leb-true, leb-false}
 use lib.Dec.{leb}
-use lib.ListN.{length, drop, take, getD, replicate, length-drop, length-map}
+use lib.ListN.{length, drop, take, replicate, length-drop, length-map}
 use lib.Seq.{sets, take-all, take-take, take-append-seam}
 use Rattle.limit.specs.declared.Limit.the-variants.{Records, Configuration as ConfigurationWord, TickSet}
 use Rattle.limit.specs.declared.Place.{Place}

@@ -4,10 +4,9 @@ use mathlib.Core.List.{List, [], _∷_, _++_}
 use Prim.Native.Nat.{ℕ, _%_}
 use lib.Dec.{eqb, ltb}
 use lib.IntN.{ℤ}
-use lib.ListN.{length, take, drop}
+use lib.ListN.{length, drop}
 use Rattle.constraint.specs.SamePlace as place
 use Rattle.constraint.specs.SamePlace.{samePlaceOf}
-use Rattle.constraint.specs.declared.Constraint.{Constraint}
 use Rattle.table.specs.Reader as table
 use Rattle.monitor.specs.Run as run
 use Rattle.monitor.specs.Single as single

@@ -1,7 +1,8 @@
 -- Kinds, records and answers as numbers: what `include/ccsl_monitor.h` says of their layout. Assumes nothing.
+use mathlib.Core.Path.{_≡_}
 use mathlib.Core.Bool.{Bool, true, cond, _&&_}
 use mathlib.Core.List.{List, [], _∷_, map}
-use Prim.Native.Nat.{ℕ, _+_}
+use Prim.Native.Nat.{ℕ, _+_, _≤_}
 use lib.Dec.{leb}
 use lib.IntN.{ℤ}
 use lib.ListN.{getD, take}
@@ -159,3 +160,19 @@ ofPlace (place.refused number p) = three 2 number p
 -- the numbers of an answer, with others behind them
 abbrev pub threeAnd : Three → List ℕ → List ℕ
 threeAnd t ns = t .said ∷ t .first ∷ t .second ∷ ns
+
+-- ---- a theorem: records that were written are read back as the same records
+
+-- a record whose numbers fit their fields
+pub record Fitting (r : Constraint) : Type 0 where
+  pub defined : r .defined ≤ 255
+  pub first : r .first ≤ 255
+  pub second : r .second ≤ 255
+  pub parameter : r .parameter .0 ≤ 4_294_967_295
+
+pub data AllFitting : List Constraint → Type 0 where
+  none : AllFitting []
+  more : {r : Constraint} {rs : List Constraint} → Fitting r → AllFitting rs → AllFitting (r ∷ rs)
+
+abbrev pub ReadBack : Type 0
+ReadBack = (rs : List Constraint) → AllFitting rs → (recordsOf (recordNumbers rs) ≡ rs) × (kindsKnown (recordNumbers rs) ≡ true)

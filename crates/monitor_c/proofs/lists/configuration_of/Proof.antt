@@ -2,13 +2,13 @@
 -- what is left of the 64. Assumes nothing.
 use mathlib.Core.Path.{_≡_, refl, sym, ap, _∙_}
 use mathlib.Core.List.{map}
-use Prim.Native.Nat.{_≤_, _-_, _+_}
+use Prim.Native.Nat.{_≤_, _-_}
 use native.Mathlib.Omega.{arith}
 use lib.IntN.{pos}
 use mir.Syntax.{w64}
 use mir.Val.{SFits}
 use mir.Facts.{toZ-ofZ}
-use lib.ListN.{length, getD, drop, take, length-set, length-map}
+use lib.ListN.{length, getD, drop, length-set, length-map}
 use lib.Seq.{sets}
 use Rattle.constraint.specs.Meaning.{word}
 use Rattle.monitor_c.proofs.ListLaws.{sets-past, sets-all, store-more, map-take}

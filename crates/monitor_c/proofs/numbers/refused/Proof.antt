@@ -1,5 +1,5 @@
 -- The number of the limit is what the call says. Assumes nothing.
-use mathlib.Core.Path.{refl, sym, ap, _∙_}
+use mathlib.Core.Path.{refl}
 use borrow.Author.Needs.{needs}
 use Rattle.monitor_c.proofs.numbers.refused.Statement.{statement}
 use Rattle.monitor_c.proofs.numbers.refused.Tie as tie

@@ -1,5 +1,5 @@
 -- In each arm the verdict is known. Assumes nothing.
-use mathlib.Core.Path.{refl, sym, ap, _∙_}
+use mathlib.Core.Path.{refl, _∙_}
 use borrow.Author.Needs.{needs}
 use Rattle.monitor_c.proofs.numbers.verdict_numbers.Statement.{statement}
 use Rattle.monitor_c.proofs.numbers.verdict_numbers.Tie as tie

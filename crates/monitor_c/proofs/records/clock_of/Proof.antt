@@ -1,8 +1,7 @@
 -- What is at most 255 fits a byte. Assumes nothing.
 use native.Mathlib.Omega.{arith}
 use Prim.Native.Nat.{_<_}
-use borrow.Author.Needs.{needs, fits-under}
-use mir.Syntax.{w8}
+use borrow.Author.Needs.{needs}
 use Rattle.monitor_c.proofs.RecordLaws.{at-most}
 use Rattle.monitor_c.proofs.records.clock_of.Statement.{statement}
 use Rattle.monitor_c.proofs.records.clock_of.Tie as tie

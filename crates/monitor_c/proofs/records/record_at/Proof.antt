@@ -1,5 +1,5 @@
 -- Six numbers in a row, each read and named. Assumes nothing.
-use mathlib.Core.Path.{_≡_, refl, sym, ap, _∙_}
+use mathlib.Core.Path.{refl}
 use Prim.Native.Nat.{_<_, _+_}
 use lib.ListN.{getD}
 use native.Mathlib.Omega.{arith}

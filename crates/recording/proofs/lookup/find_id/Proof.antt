@@ -1,11 +1,9 @@
 -- `find_id` meets its contract: no variable before the start of the id's bucket has the id. Assumes nothing.
-use mathlib.Core.Path.{_≡_, refl, sym, ap, _∙_}
-use native.Mathlib.Omega.{arith}
+use mathlib.Core.Path.{sym, ap, _∙_}
 use denote.Ref.{now}
 use lib.ListN.{getD}
-use Prim.Native.Nat.{_≤_}
 use native.Mathlib.Nat.{le-of-eq}
-use Rattle.recording.specs.Variables.{bucketOf, codeOf}
+use Rattle.recording.specs.Variables.{bucketOf}
 use Rattle.recording.proofs.VariableLaws.{look-long, look-short, starts-skip}
 use borrow.Author.Needs.{needs}
 use Rattle.recording.proofs.lookup.find_id.Statement.{statement}
