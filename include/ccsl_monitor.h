@@ -72,7 +72,8 @@ enum {
 /* Judges a recording by a table.
  * answer, 5 numbers: CCSL_ACCEPTED, 0, 0; or CCSL_VIOLATED, the table line, the recorded time; or CCSL_REFUSED, the limit's number, the
  * place; then the number of accepted steps and the number of constraints, both 0 where the table was refused.
- * words, 64 words: the configuration after the accepted steps, all 0 where the table was refused.
+ * words, 64 words: the configuration after the accepted steps, all 0 where the table was refused. A recording of length 0 is refused, with
+ * 36, and leaves the table's start words: single steps begin with them.
  * CCSL_ANSWER_SHORT, CCSL_WORDS_SHORT. */
 uint32_t ccsl_run(const uint8_t *table, size_t table_len,
                   const uint8_t *recording, size_t recording_len,
@@ -95,7 +96,7 @@ uint32_t ccsl_read_table(const uint8_t *text, size_t text_len,
  * `ticks` is 1. records_len counts numbers, six a record.
  * answer, 3 numbers: CCSL_ACCEPTED, 0, 0; or CCSL_VIOLATED, the record from 1, 0; or CCSL_REFUSED, the limit's number, the place.
  * CCSL_ANSWER_SHORT, CCSL_WORDS_SHORT, CCSL_RECORDS_RAGGED, CCSL_KIND_UNKNOWN. More than 64 records, all of a known kind, are refused with
- * 59, at the lowest place. */
+ * 59, at the first that is bad, else at 65. */
 uint32_t ccsl_step(const uint64_t *records, size_t records_len,
                    uint32_t clocks,
                    int64_t *words, size_t words_len,

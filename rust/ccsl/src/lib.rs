@@ -1,4 +1,5 @@
-//! Safe calls of the proved checker of clock constraints, `libmonitor_c.a`.
+//! Safe calls of the proved checker of clock constraints, `libmonitor_c.a`, which `rt staticlib monitor_c`
+//! builds.
 //!
 //! A table of constraints and a recording of ticks go in, a verdict comes out:
 //!
@@ -199,6 +200,13 @@ pub fn run(table: &[u8], recording: &[u8]) -> Report {
         constraints: constraints as usize,
         configuration,
     }
+}
+
+/// The words that a table starts with, from which single steps begin; all 0 where it is refused.
+///
+/// They are what a run of an empty recording leaves, which is refused before its first step.
+pub fn start_words(table: &[u8]) -> Configuration {
+    run(table, b"").configuration
 }
 
 /// One step: clock k ticks where bit k of `ticks` is 1. Moves the configuration if and only if the

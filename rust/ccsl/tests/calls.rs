@@ -104,6 +104,14 @@ fn a_refused_table_prints_config_alone() {
 }
 
 #[test]
+fn single_steps_begin_with_the_start_words() {
+    let table =
+        b"a precedes b\nc clockDef await 3 a\nd clockDef a sampled b\ne clockDef a upto b\n";
+    assert_eq!(ccsl::start_words(table), configuration(&[0, 3, 2, 1]));
+    assert_eq!(ccsl::start_words(b"a before b"), configuration(&[]));
+}
+
+#[test]
 fn a_step_moves_the_configuration_only_where_it_is_accepted() {
     let records = [relation(Kind::Precedes, 0, 1)];
     let mut words = configuration(&[0]);
