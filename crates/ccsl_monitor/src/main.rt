@@ -6,5 +6,5 @@ fn main() {
     let mut recording = [0u8; 65537];
     let n = console::read_file(b"table.ccsl", &mut table);
     let m = console::read_file(b"trace.vcd", &mut recording);
-    console::say_report(monitor::run(&table[..n], &recording[..m]));
+    console::say_report(run::run(&table[..n], &recording[..m]));
 }

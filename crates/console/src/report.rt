@@ -5,9 +5,9 @@ use super::print::say_refusal;
 use super::print::say_word;
 use constraint::Configuration;
 use limit::Place;
-use monitor::Report;
-use monitor::Verdict;
 use recording::Time;
+use run::Report;
+use run::Verdict;
 
 // The table line and the time of a violation.
 fn violated(line: Place, time: Time) {

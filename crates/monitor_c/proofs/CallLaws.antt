@@ -9,8 +9,8 @@ use lib.IntN.{ℤ}
 use lib.ListN.{length, set}
 use Rattle.constraint.specs.SamePlace.{samePlaceOf}
 use Rattle.table.specs.Reader.{readTable}
-use Rattle.monitor.specs.Run.{runOf}
-use Rattle.monitor.specs.Single.{stepOf}
+use Rattle.run.specs.Run.{runOf}
+use Rattle.judging.specs.Single.{stepOf}
 use Rattle.monitor_c.specs.declared.Three.{Three}
 use Rattle.monitor_c.specs.Calls.{written, answerShort, wordsShort, recordsShort, namesShort, recordsRagged, kindUnknown, left, runLeft, runInto, tableLeft, readLeft, readInto, stepLeft, stepInto, answerLeft, placeLeft, placeInto}
 use Rattle.monitor_c.specs.Numbers.{clockOf, recordsOf, kindsKnown, configurationOf, threeAnd}

@@ -21,9 +21,9 @@ use Rattle.constraint.specs.declared.Constraint.{Constraint}
 use Rattle.constraint.specs.declared.Word.{Word}
 use Rattle.constraint.proofs.Booleans.{and-l}
 use Rattle.constraint.proofs.Demand3.{nowhere, clocks-pass, place-passes}
-use Rattle.monitor.specs.Lent.{lent}
-use Rattle.monitor.specs.Single.{stepOf, refusesAt, beyondClocks, judgedTold}
-use Rattle.monitor.specs.Step.{judged}
+use Rattle.lent.specs.Lent.{lent}
+use Rattle.judging.specs.Single.{stepOf, refusesAt, beyondClocks, judgedTold}
+use Rattle.judging.specs.Step.{judged}
 use Rattle.monitor_c.specs.Numbers.{atMost, recordOf, recordsOf, sixes, sixAt}
 use Rattle.monitor_c.proofs.ListLaws.{one-more, sets-written, sets-all}
 

@@ -8,8 +8,8 @@ use lib.ListN.{length, drop}
 use Rattle.constraint.specs.SamePlace as place
 use Rattle.constraint.specs.SamePlace.{samePlaceOf}
 use Rattle.table.specs.Reader as table
-use Rattle.monitor.specs.Run as run
-use Rattle.monitor.specs.Single as single
+use Rattle.run.specs.Run as run
+use Rattle.judging.specs.Single as single
 use Rattle.monitor_c.specs.Numbers.{clockOf, recordsOf, kindsKnown, recordNumbers, nameNumbers, configurationOf, wordNumbers, ofRun, ofTable, ofStep, ofPlace, threeAnd}
 
 -- numbers, in the place of the first of a list; the rest is left alone

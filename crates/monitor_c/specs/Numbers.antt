@@ -17,8 +17,8 @@ use Rattle.constraint.specs.declared.Relation.the-variants.{Coincides, Excludes
 use Rattle.constraint.specs.declared.Word.{Word}
 use Rattle.text.specs.declared.Span.{Span}
 use Rattle.table.specs.Reader as table
-use Rattle.monitor.specs.Run as run
-use Rattle.monitor.specs.Single as single
+use Rattle.run.specs.Run as run
+use Rattle.judging.specs.Single as single
 use Rattle.monitor_c.specs.declared.Three.{Three}
 
 -- ---- kinds

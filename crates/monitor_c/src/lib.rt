@@ -57,7 +57,7 @@ pub extern "C" fn ccsl_run(
     if words.len() < 64 {
         return WORDS_SHORT;
     }
-    let report = monitor::run(table, recording);
+    let report = run::run(table, recording);
     let verdict = report.verdict;
     let steps = report.steps;
     let configuration = report.configuration;
@@ -124,7 +124,7 @@ pub extern "C" fn ccsl_step(
     if !kinds_known(records) {
         return KIND_UNKNOWN;
     }
-    let stepped = monitor::step_on(
+    let stepped = lent::step_on(
         records_of(records),
         records.len() / 6,
         clock_of(clocks as u64),
@@ -164,7 +164,7 @@ pub extern "C" fn ccsl_same_place(
     if !kinds_known(records) {
         return KIND_UNKNOWN;
     }
-    let place = monitor::same_place_on(
+    let place = lent::same_place_on(
         records_of(records),
         records.len() / 6,
         clock_of(clocks as u64),

@@ -4,17 +4,17 @@ use constraint::Definition;
 use constraint::Kind;
 use constraint::Relation;
 use constraint::SamePlace;
+use judging::StepAnswer;
+use limit::Check;
 use limit::Refusal;
-use monitor::StepAnswer;
-use monitor::Verdict;
-use table::Outcome;
+use run::Verdict;
 ghost use mathlib.Core.Path.{_≡_};
 ghost use Rattle.limit.specs.Limit.{numberOf};
 ghost use Rattle.constraint.specs.SamePlace as place;
 ghost use Rattle.constraint.specs.declared.Kind.the-variants as kinds;
 ghost use Rattle.table.specs.Reader as reader;
-ghost use Rattle.monitor.specs.Run as run;
-ghost use Rattle.monitor.specs.Single as single;
+ghost use Rattle.run.specs.Run as run;
+ghost use Rattle.judging.specs.Single as single;
 ghost use Rattle.monitor_c.specs.Numbers.{atMost, kindNumber, kindOf, three, ofRun, ofTable, ofStep, ofPlace};
 
 // n, or the most that is let pass.
@@ -158,12 +158,12 @@ pub fn verdict_numbers(verdict: Verdict) -> Three
 }
 
 // Whether a table was read.
-pub fn table_numbers(outcome: Outcome) -> Three
+pub fn table_numbers(outcome: Check) -> Three
     ensures { λ r. ⌜ r ≡ ofTable (reader.said outcome) ⌝ }
 {
     match outcome {
-        Outcome::Read => said(0),
-        Outcome::Refused(refusal) => refused(refusal),
+        Check::Passed => said(0),
+        Check::Refused(refusal) => refused(refusal),
     }
 }
 

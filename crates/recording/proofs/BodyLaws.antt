@@ -10,11 +10,11 @@ use lib.Seq.{take-all}
 use Rattle.limit.specs.declared.Limit.the-variants.{BodyWord}
 use Rattle.text.specs.Digits.{number}
 use Rattle.recording.specs.Body.{opensMark, levelOf, markTurn, variableTurn, levelTurn, changeTurn, wordTurn}
-use Rattle.recording.specs.Checks.{stopped}
+use Rattle.limit.specs.Checked.{stopped}
 use Rattle.recording.specs.Variables.{Variable}
 use Rattle.recording.specs.declared.Level.{Level}
 use Rattle.recording.specs.declared.Level.the-variants.{Tick, NoTick, NoChange}
-use Rattle.recording.specs.declared.Marked.{Marked}
+use Rattle.recording.specs.declared.Step.{Step}
 
 pub opens-none : (w : List ℕ) → length w ≡ 0 → false ≡ opensMark w
 opens-none [] e = refl
@@ -36,7 +36,7 @@ pub behind : (w : List ℕ) → tail w ≡ drop 1 w
 behind [] = refl
 behind (b ∷ bs) = take-all (length (b ∷ bs) - 1) bs (omega arith)
 
-module _ (vs : List Variable) (o : Marked) (at : ℕ) (w : List ℕ) where
+module _ (vs : List Variable) (o : Step) (at : ℕ) (w : List ℕ) where
   pub change-short : length w < 2 → changeTurn vs o at w ≡ stopped BodyWord at
   change-short h = go w h
     where

@@ -8,6 +8,9 @@ use native.Mathlib.Omega.{arith}
 use borrow.Author.Tests.{leb-true, le-leb, lt-leb, lt-ltb, le-ltb}
 use lib.Dec.{ltb}
 use lib.ListN.{length}
+use Rattle.limit.specs.Checked.{Checked, passed, stopped, andThen, checked}
+use Rattle.limit.specs.declared.Check.{Check}
+use Rattle.limit.specs.declared.Check.the-variants.{Passed, Refused}
 use Rattle.limit.specs.declared.Limit.the-variants.{HeaderCommand, VariableShape, DeclaredTwice, VariableCount, ClockUndeclared, RecordingLength, RecordingByte}
 use Rattle.constraint.proofs.Booleans.{and-l, and-r}
 use Rattle.text.specs.Bytes.{inClass, sameBytes}
@@ -15,13 +18,12 @@ use Rattle.text.specs.Split.{bytesOf, front, rest, NextWord}
 use Rattle.text.specs.declared.Class.the-variants.{Parting}
 use Rattle.text.specs.declared.Span.{Span}
 use Rattle.text.proofs.Runs.{is-word, is-last, words-over}
-use Rattle.recording.specs.Checks.{passed, stopped, andThen}
 use Rattle.recording.specs.Header.{words, says, commandOf, shaped, declare, Header, cutOff, close, byCommand, header, skipping, declaring, afterEnd, Resumes, Five, firstOther, opened}
 use Rattle.recording.specs.Variables.{Variable, lookUp, isDeclared, clockAgain, allDeclared}
 use Rattle.recording.specs.declared.Command.{Command}
 use Rattle.recording.specs.declared.Command.the-variants.{Skipped, Declaration, Definitions, Unknown}
 use Rattle.recording.specs.declared.Words.{Words}
-use Rattle.recording.proofs.CheckLaws.{refuses, allows}
+use Rattle.limit.proofs.CheckLaws.{refuses, allows}
 
 -- a word is left, or none is
 module _ (r : List ℕ) (at : ℕ) (w : Span) (n : NextWord (inClass Parting) r at w) where
@@ -218,3 +220,10 @@ module _ (named : List ℕ → ℕ) (n : ℕ) (r : List ℕ) where
       go : Dec (65_536 < length r) → length r ≤ 65_536
       go (no k) = omega arith
       go (yes k) = let s : opened named n r ≡ stopped RecordingLength 0 = opened-long k in let z : _≡_ {A = ℕ} 0 1 = cc in absurd (omega arith)
+
+-- a variable more, and the words after it, are what is left of a header
+pub left-after : (o : Check) (vs : List Variable) (us : List Span) (f : List Variable → List Span → Checked Header)
+    → andThen (checked o vs) (λ v. f v us) ≡ andThen {A = Header} (checked o (record { variables = vs; body = us })) (λ g. f (g .variables) (g .body))
+unfolding andThen
+left-after Passed vs us f = refl
+left-after (Refused r) vs us f = refl

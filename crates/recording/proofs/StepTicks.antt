@@ -21,20 +21,20 @@ use Rattle.text.specs.Split.{bytesOf}
 use Rattle.text.specs.declared.Number.{Number}
 use Rattle.text.specs.declared.Number.the-variants.{NotDigits, TooLarge, Value}
 use Rattle.text.specs.declared.Span.{Span}
-use Rattle.table.specs.Grammar.{clockOf}
-use Rattle.table.specs.Names.{position}
-use Rattle.table.specs.declared.Found.{Found}
-use Rattle.table.specs.declared.Found.the-variants.{At, Nothing}
-use Rattle.table.specs.declared.Names.{Names}
+use Rattle.grammar.specs.Grammar.{clockOf}
+use Rattle.grammar.specs.Names.{position}
+use Rattle.grammar.specs.declared.Found.{Found}
+use Rattle.grammar.specs.declared.Found.the-variants.{At, Nothing}
+use Rattle.grammar.specs.declared.Names.{Names}
 use Rattle.recording.specs.Body.{opensMark, levelOf, unmarked, begin, ticking, markTurn, foundTurn, variableTurn, levelTurn, changeTurn, wordTurn, Reading, closing, onward, bodySteps, bodyOf, reading}
-use Rattle.recording.specs.Checks.{Checked, passed, stopped, refuseIf, andThen}
+use Rattle.limit.specs.Checked.{Checked, passed, stopped, refuseIf, andThen}
 use Rattle.recording.specs.Header.{says, commandOf, shaped, declare, Header, firstOther, close, byCommand, header, skipping, declaring, opened, words}
 use Rattle.recording.specs.Variables.{Variable, clockNamed, withId, lookUp, isDeclared, clockAgain, allDeclared}
 use Rattle.recording.specs.declared.Command.{Command}
 use Rattle.recording.specs.declared.Command.the-variants.{Skipped, Declaration, Definitions, Unknown}
 use Rattle.recording.specs.declared.Level.{Level}
 use Rattle.recording.specs.declared.Level.the-variants.{Tick, NoTick, NoChange}
-use Rattle.recording.specs.declared.Marked.{Marked}
+use Rattle.recording.specs.declared.Step.{Step}
 
 -- a clock of the table, or none
 abbrev pub Clock : ℕ → ℕ → Type 0
@@ -165,14 +165,14 @@ module _ (n : ℕ) (room : n ≤ 32) where
         (unless-broken (λ h. Clocks (h .variables)) (ltb (firstOther r) (length r)) RecordingByte (firstOther r) (header named n r [] (words r 0)) (header-known [] (words r 0) tt))
 
   -- ---- the body: only clocks of the table tick
-  abbrev Ticking : Marked → Type 0
+  abbrev Ticking : Step → Type 0
   Ticking o = o .ticks < 2 ^ n
 
   with-tick-below : (f k : ℕ) → f < 2 ^ n → Clock n k → withTick f k < 2 ^ n
   with-tick-below f k h (inl e) = rw (lt-ltb k 32 (omega arith)) (or-lt n f (2 ^ k) h (pow-lt e))
   with-tick-below f k h (inr e) = rw (le-ltb k 32 (omega arith)) h
 
-  found-ticking : (o : Marked) (at : ℕ) (tick : Bool) (x : Found) → Ticking o → Found-clock x → Each Ticking (foundTurn o at tick x)
+  found-ticking : (o : Step) (at : ℕ) (tick : Bool) (x : Found) → Ticking o → Found-clock x → Each Ticking (foundTurn o at tick x)
   found-ticking o at tick Nothing h k = tt
   found-ticking o at false (At k) h e = h
   found-ticking o at true (At k) h e = go (bits (o .ticks) k)
@@ -184,7 +184,7 @@ module _ (n : ℕ) (room : n ≤ 32) where
   zero-below : 0 < 2 ^ n
   zero-below = omega (arith, suc-ones n)
 
-  mark-ticking : (o : Marked) (at : ℕ) (d : Number) → Each Ticking (markTurn o at d)
+  mark-ticking : (o : Step) (at : ℕ) (d : Number) → Each Ticking (markTurn o at d)
   mark-ticking o at NotDigits = tt
   mark-ticking o at TooLarge = tt
   mark-ticking o at (Value t) = go (o .begun && leb t (o .time .0))
@@ -193,31 +193,31 @@ module _ (n : ℕ) (room : n ≤ 32) where
       go true = tt
       go false = zero-below
 
-  abbrev AllTicking : List Marked → Type 0
+  abbrev AllTicking : List Step → Type 0
   AllTicking [] = Unit {0}
   AllTicking (s ∷ ss) = Ticking s × AllTicking ss
 
   module _ (vs : List Variable) (known : Clocks vs) where
-    variable-ticking : (o : Marked) (at : ℕ) (tick : Bool) (id : List ℕ) → Ticking o → Each Ticking (variableTurn vs o at tick id)
+    variable-ticking : (o : Step) (at : ℕ) (tick : Bool) (id : List ℕ) → Ticking o → Each Ticking (variableTurn vs o at tick id)
     variable-ticking o at tick id h = go (not (o .begun))
       where
         go : (x : Bool) → Each Ticking (refuseIf x ChangeBeforeMark at (foundTurn o at tick (lookUp vs id)))
         go true = tt
         go false = found-ticking o at tick (lookUp vs id) h (look-clock id vs known)
 
-    level-ticking : (o : Marked) (at : ℕ) (l : Level) (id : List ℕ) → Ticking o → Each Ticking (levelTurn vs o at l id)
+    level-ticking : (o : Step) (at : ℕ) (l : Level) (id : List ℕ) → Ticking o → Each Ticking (levelTurn vs o at l id)
     unfolding levelTurn
     level-ticking o at l [] h = tt
     level-ticking o at Tick (i ∷ is) h = variable-ticking o at true (i ∷ is) h
     level-ticking o at NoTick (i ∷ is) h = variable-ticking o at false (i ∷ is) h
     level-ticking o at NoChange (i ∷ is) h = tt
 
-    change-ticking : (o : Marked) (at : ℕ) (w : List ℕ) → Ticking o → Each Ticking (changeTurn vs o at w)
+    change-ticking : (o : Step) (at : ℕ) (w : List ℕ) → Ticking o → Each Ticking (changeTurn vs o at w)
     unfolding changeTurn
     change-ticking o at [] h = tt
     change-ticking o at (b ∷ id) h = level-ticking o at (levelOf b) id h
 
-    word-ticking : (o : Marked) (at : ℕ) (w : List ℕ) → Ticking o → Each Ticking (wordTurn vs o at w)
+    word-ticking : (o : Step) (at : ℕ) (w : List ℕ) → Ticking o → Each Ticking (wordTurn vs o at w)
     unfolding wordTurn
     word-ticking o at w h = go (opensMark w)
       where
@@ -225,7 +225,7 @@ module _ (n : ℕ) (room : n ≤ 32) where
         go true = mark-ticking o at (number (drop 1 w))
         go false = change-ticking o at w h
 
-    closing-ticking : (o : Marked) (g : Reading) → Ticking o → AllTicking (g .steps) → AllTicking (closing o g .steps)
+    closing-ticking : (o : Step) (g : Reading) → Ticking o → AllTicking (g .steps) → AllTicking (closing o g .steps)
     unfolding closing
     closing-ticking o g h k = go (o .begun)
       where
@@ -233,12 +233,12 @@ module _ (n : ℕ) (room : n ≤ 32) where
         go true = (h, k)
         go false = k
 
-    onward-ticking : (c : Checked Marked) (f : Marked → Reading) → Each Ticking c → ((o : Marked) → Ticking o → AllTicking (f o .steps)) → AllTicking (onward c f .steps)
+    onward-ticking : (c : Checked Step) (f : Step → Reading) → Each Ticking c → ((o : Step) → Ticking o → AllTicking (f o .steps)) → AllTicking (onward c f .steps)
     unfolding onward
     onward-ticking (passed o) f h k = k o h
     onward-ticking (stopped l p) f h k = tt
 
-    body-ticking : (r : List ℕ) (o : Marked) (ws : List Span) → Ticking o → AllTicking (bodySteps vs r o ws .steps)
+    body-ticking : (r : List ℕ) (o : Step) (ws : List Span) → Ticking o → AllTicking (bodySteps vs r o ws .steps)
     unfolding bodySteps
     body-ticking r o [] h = closing-ticking o _ h tt
     body-ticking r o (w ∷ ws) h = go (opensMark (bytesOf r w)) (onward-ticking _ _ (word-ticking o (w .start) (bytesOf r w) h) (λ p k. body-ticking r p ws k))
@@ -251,7 +251,7 @@ module _ (n : ℕ) (room : n ≤ 32) where
         go false k = k
 
   -- ---- the whole recording
-  pub one-ticking : (before later : List Marked) (s : Marked) → AllTicking (before ++ s ∷ later) → Ticking s
+  pub one-ticking : (before later : List Step) (s : Step) → AllTicking (before ++ s ∷ later) → Ticking s
   one-ticking [] later s h = h .0
   one-ticking (x ∷ before) later s h = one-ticking before later s (h .1)
 

@@ -13,7 +13,7 @@ use lib.Seq.{drop-nil, getD-set-same, getD-set-other}
 use Rattle.constraint.proofs.Booleans.{and-l, and-r}
 use Rattle.text.specs.Bytes.{allBytes, sameBytes}
 use Rattle.text.proofs.Bytes.{drop-next, same-equal, equal-same}
-use Rattle.table.specs.declared.Found.the-variants.{At, Nothing}
+use Rattle.grammar.specs.declared.Found.the-variants.{At, Nothing}
 use Rattle.recording.specs.Variables.{Variable, withId, lookUp, hasClock, codeOf, digitOf, Bytes, bytesOfCode, variablesOf, allDeclared, bucketOf, Starts}
 
 -- ---- ids as numbers

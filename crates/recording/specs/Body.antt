@@ -13,14 +13,14 @@ use Rattle.text.specs.Split.{bytesOf}
 use Rattle.text.specs.declared.Number.{Number}
 use Rattle.text.specs.declared.Number.the-variants.{NotDigits, TooLarge, Value}
 use Rattle.text.specs.declared.Span.{Span}
-use Rattle.table.specs.declared.Found.{Found}
-use Rattle.table.specs.declared.Found.the-variants.{At, Nothing}
-use Rattle.recording.specs.Checks.{Checked, passed, stopped, refuseIf, checked}
+use Rattle.grammar.specs.declared.Found.{Found}
+use Rattle.grammar.specs.declared.Found.the-variants.{At, Nothing}
+use Rattle.limit.specs.Checked.{Checked, passed, stopped, refuseIf, checked}
 use Rattle.recording.specs.Header.{Header, opened}
 use Rattle.recording.specs.Variables.{Variable, lookUp}
 use Rattle.recording.specs.declared.Level.{Level}
 use Rattle.recording.specs.declared.Level.the-variants.{Tick, NoTick, NoChange}
-use Rattle.recording.specs.declared.Marked.{Marked}
+use Rattle.recording.specs.declared.Step.{Step}
 use Rattle.recording.specs.declared.Turn.{Turn}
 
 -- `#` is byte 35
@@ -33,45 +33,45 @@ abbrev pub levelOf : ℕ → Level
 levelOf b = cond (eqb b 49) Tick (cond (eqb b 48) NoTick NoChange)
 
 -- before any mark
-abbrev pub unmarked : Marked
+abbrev pub unmarked : Step
 unmarked = record { begun = false; mark = record { 0 = 0 }; time = record { 0 = 0 }; ticks = 0 }
 
 -- a step begins
-abbrev pub begin : (at time : ℕ) → Marked
+abbrev pub begin : (at time : ℕ) → Step
 begin at t = record { begun = true; mark = record { 0 = at }; time = record { 0 = t }; ticks = 0 }
 
 -- the open step with a tick of a clock
-abbrev pub ticking : ℕ → Marked → Marked
+abbrev pub ticking : ℕ → Step → Step
 ticking k o = record { begun = o .begun; mark = o .mark; time = o .time; ticks = withTick (o .ticks) k }
 
 -- a mark: 40 no digits, or other bytes among them; 41 time above 2^64 - 1 or not above the last
-abbrev pub markTurn : Marked → (at : ℕ) → Number → Checked Marked
+abbrev pub markTurn : Step → (at : ℕ) → Number → Checked Step
 markTurn o at NotDigits = stopped BodyWord at
 markTurn o at TooLarge = stopped MarkTime at
 markTurn o at (Value t) = refuseIf (o .begun && leb t (o .time .0)) MarkTime at (passed (begin at t))
 
 -- a change of the variable that was found: 43 id undeclared; 44 a table clock's second tick in a step
-abbrev pub foundTurn : Marked → (at : ℕ) → (tick : Bool) → Found → Checked Marked
+abbrev pub foundTurn : Step → (at : ℕ) → (tick : Bool) → Found → Checked Step
 foundTurn o at tick Nothing = stopped IdUndeclared at
 foundTurn o at true (At k) = refuseIf (bits (o .ticks) k) TickTwice at (passed (ticking k o))
 foundTurn o at false (At k) = passed o
 
 -- a change of a variable: 42 before any mark
-abbrev pub variableTurn : List Variable → Marked → (at : ℕ) → (tick : Bool) → (id : List ℕ) → Checked Marked
+abbrev pub variableTurn : List Variable → Step → (at : ℕ) → (tick : Bool) → (id : List ℕ) → Checked Step
 variableTurn vs o at tick id = refuseIf (not (o .begun)) ChangeBeforeMark at (foundTurn o at tick (lookUp vs id))
 
-unfoldable pub levelTurn : List Variable → Marked → (at : ℕ) → Level → (id : List ℕ) → Checked Marked
+unfoldable pub levelTurn : List Variable → Step → (at : ℕ) → Level → (id : List ℕ) → Checked Step
 levelTurn vs o at l [] = stopped BodyWord at
 levelTurn vs o at Tick (i ∷ is) = variableTurn vs o at true (i ∷ is)
 levelTurn vs o at NoTick (i ∷ is) = variableTurn vs o at false (i ∷ is)
 levelTurn vs o at NoChange (i ∷ is) = stopped BodyWord at
 
 -- a word that opens no mark: 40 no change of the two kinds
-unfoldable pub changeTurn : List Variable → Marked → (at : ℕ) → List ℕ → Checked Marked
+unfoldable pub changeTurn : List Variable → Step → (at : ℕ) → List ℕ → Checked Step
 changeTurn vs o at [] = stopped BodyWord at
 changeTurn vs o at (b ∷ id) = levelTurn vs o at (levelOf b) id
 
-unfoldable pub wordTurn : List Variable → Marked → (at : ℕ) → List ℕ → Checked Marked
+unfoldable pub wordTurn : List Variable → Step → (at : ℕ) → List ℕ → Checked Step
 wordTurn vs o at w = cond (opensMark w) (markTurn o at (number (drop 1 w))) (changeTurn vs o at w)
 
 -- ---- reading alone
@@ -81,14 +81,14 @@ pub data Ending : Type 0 where
   refusedAt : Limit → (place : ℕ) → Ending
 
 pub record Reading : Type 0 where
-  pub steps : List Marked
+  pub steps : List Step
   pub ending : Ending
 
 abbrev pub endsWith : Ending → Reading
 endsWith e = record { steps = []; ending = e }
 
 -- the open step, where there is one, is closed before what follows
-unfoldable pub closing : Marked → Reading → Reading
+unfoldable pub closing : Step → Reading → Reading
 closing o g = cond (o .begun) (record { steps = o ∷ g .steps; ending = g .ending }) g
 
 unfoldable pub onward : {A : Type 0} → Checked A → (A → Reading) → Reading
@@ -96,7 +96,7 @@ onward (passed a) f = f a
 onward (stopped l p) f = endsWith (refusedAt l p)
 
 -- word by word. A word that opens with `#` closes the open step before its digits are read
-unfoldable pub bodySteps : List Variable → List ℕ → Marked → List Span → Reading
+unfoldable pub bodySteps : List Variable → List ℕ → Step → List Span → Reading
 bodySteps vs r o [] = closing o (endsWith ended)
 bodySteps vs r o (w ∷ ws) =
     cond (opensMark (bytesOf r w))
@@ -111,5 +111,5 @@ abbrev pub reading : (named : List ℕ → ℕ) (n : ℕ) → List ℕ → Readi
 reading named n r = onward (opened named n r) (bodyOf r)
 
 -- what a turn in code stands for
-abbrev pub turnAs : Turn → Checked Marked
-turnAs t = checked (t .outcome) (t .marked)
+abbrev pub turnAs : Turn → Checked Step
+turnAs t = checked (t .outcome) (t .step)

@@ -13,8 +13,8 @@ use Rattle.text.specs.Bytes.{inClass, passes, sameBytes}
 use Rattle.text.specs.Split.{bytesOf, wordsAt, runEnd, NextWord}
 use Rattle.text.specs.declared.Class.the-variants.{Parting, Recorded}
 use Rattle.text.specs.declared.Span.{Span}
-use Rattle.table.specs.declared.Outcome.the-variants.{Read}
-use Rattle.recording.specs.Checks.{Checked, passed, stopped, refuseIf, andThen, checked}
+use Rattle.limit.specs.declared.Check.the-variants.{Passed}
+use Rattle.limit.specs.Checked.{Checked, passed, stopped, refuseIf, andThen, checked}
 use Rattle.recording.specs.Variables.{Variable, lookUp, isDeclared, clockAgain, allDeclared, declared}
 use Rattle.recording.specs.declared.Command.{Command}
 use Rattle.recording.specs.declared.Command.the-variants.{Skipped, Declaration, Definitions, Unknown}
@@ -138,4 +138,4 @@ headerAs r h = checked (h .outcome) (record { variables = declared (h .variables
 pub record Declares (named : List ℕ → ℕ) (n : ℕ) (r : List ℕ) (vs : List Variable) (command : Span) (h : HeaderRead) : Type 0 where
   pub says : declaring named n r vs (command .start) (words r (command .end)) ≡ andThen (headerAs r h) (λ g. header named n r (g .variables) (g .body))
   pub few : h .variables .count ≤ 128
-  pub forward : h .outcome ≡ Read → command .end < h .body
+  pub forward : h .outcome ≡ Passed → command .end < h .body

@@ -1,4 +1,3 @@
 pub mod Body
-pub mod Checks
 pub mod Header
 pub mod Variables

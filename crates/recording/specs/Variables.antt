@@ -6,11 +6,11 @@ use Prim.Native.Nat.{ℕ, zero, suc, _+_, _*_, _/_, _%_, _≤_, _<_}
 use lib.Dec.{eqb, ltb, leb}
 use lib.ListN.{length, getD}
 use Rattle.text.specs.Bytes.{allBytes, sameBytes}
-use Rattle.table.specs.Grammar.{clockOf}
-use Rattle.table.specs.Names.{numberIn}
-use Rattle.table.specs.declared.Found.{Found}
-use Rattle.table.specs.declared.Found.the-variants.{At, Nothing}
-use Rattle.table.specs.declared.Names.{Names}
+use Rattle.grammar.specs.Grammar.{clockOf}
+use Rattle.grammar.specs.Names.{numberIn}
+use Rattle.grammar.specs.declared.Found.{Found}
+use Rattle.grammar.specs.declared.Found.the-variants.{At, Nothing}
+use Rattle.grammar.specs.declared.Names.{Names}
 use Rattle.recording.specs.declared.Variables.{Variables}
 
 -- a variable: the bytes of its id, and the number of its clock

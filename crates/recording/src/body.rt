@@ -1,14 +1,14 @@
 // The words of the body: marks and changes, and what they do to the open step.
 use super::Level;
-use super::Marked;
+use super::Step;
 use super::Time;
 use super::Turn;
 use super::lookup::find_id;
+use grammar::Found;
+use limit::Check;
 use limit::Limit;
 use limit::Place;
 use limit::Refusal;
-use table::Found;
-use table::Outcome;
 use text::Number;
 ghost use mathlib.Core.Path.{_≡_};
 ghost use mathlib.Core.Bool.{true, false};
@@ -16,14 +16,14 @@ ghost use Prim.Native.Nat.{_≤_, _<_};
 ghost use lib.ListN.{length};
 ghost use Rattle.text.specs.Digits.{number};
 ghost use Rattle.recording.specs.Body as b;
-ghost use Rattle.recording.specs.Checks as k;
+ghost use Rattle.limit.specs.Checked as k;
 ghost use Rattle.recording.specs.Variables.{Starts, variablesOf};
 
 // Before any mark.
-pub fn unmarked() -> Marked
+pub fn unmarked() -> Step
     ensures { λ r. ⌜ r ≡ b.unmarked ⌝ }
 {
-    Marked {
+    Step {
         begun: false,
         mark: Place(0),
         time: Time(0),
@@ -32,25 +32,25 @@ pub fn unmarked() -> Marked
 }
 
 // The open step after a word.
-fn passed(marked: Marked) -> Turn
-    ensures { λ r. ⌜ b.turnAs r ≡ k.Checked.passed marked ⌝ }
+fn passed(step: Step) -> Turn
+    ensures { λ r. ⌜ b.turnAs r ≡ k.Checked.passed step ⌝ }
 {
     Turn {
-        outcome: Outcome::Read,
-        marked,
+        outcome: Check::Passed,
+        step,
     }
 }
 
 // A word that breaks a limit.
-fn stopped(marked: Marked, limit: Limit, at: usize) -> Turn
+fn stopped(step: Step, limit: Limit, at: usize) -> Turn
     ensures { λ r. ⌜ b.turnAs r ≡ k.Checked.stopped limit at ⌝ }
 {
     Turn {
-        outcome: Outcome::Refused(Refusal {
+        outcome: Check::Refused(Refusal {
             limit,
             place: Place(at),
         }),
-        marked,
+        step,
     }
 }
 
@@ -65,14 +65,14 @@ pub fn opens_mark(word: &[u8]) -> bool
 }
 
 // A mark at a time.
-fn timed(marked: Marked, at: usize, time: u64) -> Turn
-    ensures { λ r. ⌜ b.turnAs r ≡ b.markTurn marked at (Number.Value time) ⌝ }
+fn timed(step: Step, at: usize, time: u64) -> Turn
+    ensures { λ r. ⌜ b.turnAs r ≡ b.markTurn step at (Number.Value time) ⌝ }
 {
-    let last = marked.time;
-    if marked.begun & (time <= last.0) {
-        return stopped(marked, Limit::MarkTime, at);
+    let last = step.time;
+    if step.begun & (time <= last.0) {
+        return stopped(step, Limit::MarkTime, at);
     }
-    passed(Marked {
+    passed(Step {
         begun: true,
         mark: Place(at),
         time: Time(time),
@@ -81,40 +81,40 @@ fn timed(marked: Marked, at: usize, time: u64) -> Turn
 }
 
 // A mark with its digits.
-pub fn mark(marked: Marked, at: usize, digits: &[u8]) -> Turn
-    ensures { λ r. ⌜ b.turnAs r ≡ b.markTurn marked at (number (now (digits .entry))) ⌝ }
+pub fn mark(step: Step, at: usize, digits: &[u8]) -> Turn
+    ensures { λ r. ⌜ b.turnAs r ≡ b.markTurn step at (number (now (digits .entry))) ⌝ }
 {
     let said = text::decimal(digits);
     match said {
-        Number::NotDigits => stopped(marked, Limit::BodyWord, at),
-        Number::TooLarge => stopped(marked, Limit::MarkTime, at),
-        Number::Value(time) => timed(marked, at, time),
+        Number::NotDigits => stopped(step, Limit::BodyWord, at),
+        Number::TooLarge => stopped(step, Limit::MarkTime, at),
+        Number::Value(time) => timed(step, at, time),
     }
 }
 
 // A tick of a clock.
-fn tick(marked: Marked, at: usize, clock: u8) -> Turn
-    ensures { λ r. ⌜ b.turnAs r ≡ b.foundTurn marked at true (Found.At clock) ⌝ }
+fn tick(step: Step, at: usize, clock: u8) -> Turn
+    ensures { λ r. ⌜ b.turnAs r ≡ b.foundTurn step at true (Found.At clock) ⌝ }
 {
-    if constraint::ticks(marked.ticks, clock) {
-        return stopped(marked, Limit::TickTwice, at);
+    if constraint::ticks(step.ticks, clock) {
+        return stopped(step, Limit::TickTwice, at);
     }
-    let mut more = marked;
-    more.ticks = constraint::with_tick(marked.ticks, clock);
+    let mut more = step;
+    more.ticks = constraint::with_tick(step.ticks, clock);
     passed(more)
 }
 
 // A change of the variable that was found.
-fn found(marked: Marked, at: usize, ticks: bool, variable: Found) -> Turn
-    ensures { λ r. ⌜ b.turnAs r ≡ b.foundTurn marked at ticks variable ⌝ }
+fn found(step: Step, at: usize, ticks: bool, variable: Found) -> Turn
+    ensures { λ r. ⌜ b.turnAs r ≡ b.foundTurn step at ticks variable ⌝ }
 {
     let Found::At(clock) = variable else {
-        return stopped(marked, Limit::IdUndeclared, at);
+        return stopped(step, Limit::IdUndeclared, at);
     };
     if ticks {
-        return tick(marked, at, clock);
+        return tick(step, at, clock);
     }
-    passed(marked)
+    passed(step)
 }
 
 // What the first byte of a change says.
@@ -136,18 +136,18 @@ fn variable<'a>(
     clocks: &'a [u8],
     count: usize,
     starts: &'a [u8],
-    marked: Marked,
+    step: Step,
     at: usize,
     ticks: bool,
     id: &[u8],
 ) -> Turn
     requires { ⌜ (count ≤ length (now ids)) × (count ≤ length (now clocks)) × (241 ≤ length (now starts)) × Starts 0 count (now ids) (now starts) ⌝ }
-    ensures { λ r. ⌜ b.turnAs r ≡ b.variableTurn (variablesOf count (now (ids .entry)) (now (clocks .entry))) marked at ticks (now (id .entry)) ⌝ }
+    ensures { λ r. ⌜ b.turnAs r ≡ b.variableTurn (variablesOf count (now (ids .entry)) (now (clocks .entry))) step at ticks (now (id .entry)) ⌝ }
 {
-    if !marked.begun {
-        return stopped(marked, Limit::ChangeBeforeMark, at);
+    if !step.begun {
+        return stopped(step, Limit::ChangeBeforeMark, at);
     }
-    found(marked, at, ticks, find_id(ids, clocks, count, starts, id))
+    found(step, at, ticks, find_id(ids, clocks, count, starts, id))
 }
 
 // A word that opens no mark.
@@ -156,20 +156,20 @@ pub fn change<'a>(
     clocks: &'a [u8],
     count: usize,
     starts: &'a [u8],
-    marked: Marked,
+    step: Step,
     at: usize,
     word: &[u8],
 ) -> Turn
     requires { ⌜ (count ≤ length (now ids)) × (count ≤ length (now clocks)) × (241 ≤ length (now starts)) × Starts 0 count (now ids) (now starts) ⌝ }
-    ensures { λ r. ⌜ b.turnAs r ≡ b.changeTurn (variablesOf count (now (ids .entry)) (now (clocks .entry))) marked at (now (word .entry)) ⌝ }
+    ensures { λ r. ⌜ b.turnAs r ≡ b.changeTurn (variablesOf count (now (ids .entry)) (now (clocks .entry))) step at (now (word .entry)) ⌝ }
 {
     if word.len() < 2 {
-        return stopped(marked, Limit::BodyWord, at);
+        return stopped(step, Limit::BodyWord, at);
     }
     let said = level(word[0]);
     match said {
-        Level::Tick => variable(ids, clocks, count, starts, marked, at, true, &word[1..]),
-        Level::NoTick => variable(ids, clocks, count, starts, marked, at, false, &word[1..]),
-        Level::NoChange => stopped(marked, Limit::BodyWord, at),
+        Level::Tick => variable(ids, clocks, count, starts, step, at, true, &word[1..]),
+        Level::NoTick => variable(ids, clocks, count, starts, step, at, false, &word[1..]),
+        Level::NoChange => stopped(step, Limit::BodyWord, at),
     }
 }

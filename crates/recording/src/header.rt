@@ -10,18 +10,18 @@ use super::lookup::code;
 use super::lookup::is_declared;
 use super::lookup::none;
 use super::lookup::with_variable;
+use grammar::Found;
+use grammar::Names;
+use limit::Check;
 use limit::Limit;
 use limit::Place;
 use limit::Refusal;
-use table::Found;
-use table::Names;
-use table::Outcome;
 use text::Class;
 use text::Span;
 ghost use mathlib.Core.Path.{_≡_};
 ghost use mathlib.Core.List.{[]};
 ghost use Prim.Native.Nat.{_≤_, _<_};
-ghost use Rattle.recording.specs.Checks as k;
+ghost use Rattle.limit.specs.Checked as k;
 ghost use Rattle.recording.specs.Header as h;
 ghost use Rattle.recording.specs.Variables as v;
 
@@ -111,7 +111,7 @@ fn shaped(recording: &[u8], words: Words) -> bool
 fn clock_named(table: &[u8], names: Names, name: &[u8]) -> u8
     ensures { λ r. ⌜ r ≡ v.clockNamed (now (table .entry)) names (now (name .entry)) ⌝ }
 {
-    let found = table::find_name(table, names, name);
+    let found = grammar::find_name(table, names, name);
     match found {
         Found::At(clock) => clock,
         Found::Nothing => 32,
@@ -123,7 +123,7 @@ fn undeclared(variables: Variables, limit: Limit, at: usize) -> Declared
     ensures { λ r. ⌜ (h.declaredAs r ≡ k.Checked.stopped limit at) × (r .variables ≡ variables) ⌝ }
 {
     Declared {
-        outcome: Outcome::Refused(Refusal {
+        outcome: Check::Refused(Refusal {
             limit,
             place: Place(at),
         }),
@@ -156,17 +156,17 @@ fn declare(
         return undeclared(variables, Limit::VariableCount, at);
     }
     Declared {
-        outcome: Outcome::Read,
+        outcome: Check::Passed,
         variables: with_variable(variables, code(text::part(recording, id)), clock),
     }
 }
 
 // A header that breaks a limit.
 fn refused(variables: Variables, limit: Limit, at: usize) -> HeaderRead
-    ensures { λ r. ⌜ (r .outcome ≡ Outcome.Refused (record { limit = limit; place = record { 0 = at } })) × (r .variables ≡ variables) ⌝ }
+    ensures { λ r. ⌜ (r .outcome ≡ Check.Refused (record { limit = limit; place = record { 0 = at } })) × (r .variables ≡ variables) ⌝ }
 {
     HeaderRead {
-        outcome: Outcome::Refused(Refusal {
+        outcome: Check::Refused(Refusal {
             limit,
             place: Place(at),
         }),
@@ -217,7 +217,7 @@ fn close(recording: &[u8], variables: Variables, clocks: usize, command: Span) -
         return refused(variables, Limit::ClockUndeclared, command.start);
     }
     HeaderRead {
-        outcome: Outcome::Read,
+        outcome: Check::Passed,
         variables,
         body: word.end,
     }
@@ -244,7 +244,7 @@ fn commands(table: &[u8], names: Names, recording: &[u8]) -> HeaderRead
             Command::Declaration => {
                 let read = declaration(table, names, recording, variables, word);
                 let outcome = read.outcome;
-                if let Outcome::Refused(_) = outcome {
+                if let Check::Refused(_) = outcome {
                     return read;
                 }
                 variables = read.variables;

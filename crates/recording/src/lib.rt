@@ -10,9 +10,9 @@ pub use body::mark;
 pub use body::opens_mark;
 pub use body::unmarked;
 pub use header::read_header;
+use limit::Check;
 use limit::Place;
 pub use lookup::index;
-use table::Outcome;
 use text::Span;
 
 // The recorded time of a mark.
@@ -45,13 +45,13 @@ pub struct Words {
 
 // The variables with one more, where it is not refused.
 pub struct Declared {
-    pub outcome: Outcome,
+    pub outcome: Check,
     pub variables: Variables,
 }
 
 // What reading a header answers: its variables, and where the body begins.
 pub struct HeaderRead {
-    pub outcome: Outcome,
+    pub outcome: Check,
     pub variables: Variables,
     pub body: usize,
 }
@@ -64,7 +64,7 @@ pub enum Level {
 }
 
 // The open step, once a mark has begun one: the offset of its mark, its time, and the clocks that tick in it.
-pub struct Marked {
+pub struct Step {
     pub begun: bool,
     pub mark: Place,
     pub time: Time,
@@ -73,6 +73,6 @@ pub struct Marked {
 
 // What a word of the body does to the open step.
 pub struct Turn {
-    pub outcome: Outcome,
-    pub marked: Marked,
+    pub outcome: Check,
+    pub step: Step,
 }

@@ -1,6 +1,6 @@
 // Variables: their ids as numbers, and the look-up of ids and clocks.
 use super::Variables;
-use table::Found;
+use grammar::Found;
 ghost use mathlib.Core.Path.{_≡_};
 ghost use mathlib.Core.List.{_∷_, [], _++_};
 ghost use Prim.Native.Nat.{_≤_, _<_};

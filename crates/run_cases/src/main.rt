@@ -25,7 +25,7 @@ fn case(table_name: &[u8], recording_name: &[u8]) {
     let m = console::read_file(recording_name, &mut recording);
     console::say(stem(recording_name));
     console::say(b"\n");
-    console::say_report(monitor::run(&table[..n], &recording[..m]));
+    console::say_report(run::run(&table[..n], &recording[..m]));
 }
 
 // Runs the case of two arguments.

@@ -6,8 +6,8 @@ use console::say_word;
 use constraint::Configuration;
 use constraint::Constraint;
 use constraint::SamePlace;
-use monitor::Monitor;
-use monitor::StepAnswer;
+use judging::StepAnswer;
+use lent::Monitor;
 
 // A word that is not 0, behind its place.
 fn word(configuration: Configuration, i: usize) {
@@ -49,7 +49,7 @@ pub fn step(
     configuration: Configuration,
     ticks: u32,
 ) {
-    let stepped = monitor::step_on(records, count, clocks, configuration, ticks);
+    let stepped = lent::step_on(records, count, clocks, configuration, ticks);
     let said = stepped.answer;
     let after = stepped.configuration;
     say(name);
@@ -88,7 +88,7 @@ pub fn same(
     first: Configuration,
     second: Configuration,
 ) {
-    let said = monitor::same_place_on(records, count, clocks, first, second);
+    let said = lent::same_place_on(records, count, clocks, first, second);
     say(name);
     say(b": ");
     place(said);
@@ -102,7 +102,7 @@ pub fn advance(
     count: usize,
     ticks: u32,
 ) -> Monitor {
-    let moved = monitor::advance_on(held, records, count, 3, ticks);
+    let moved = lent::advance_on(held, records, count, 3, ticks);
     let said = moved.answer;
     let after = moved.monitor;
     let configuration = after.configuration;

@@ -9,7 +9,7 @@ use constraint::Constraint;
 use constraint::Definition;
 use constraint::Parameter;
 use constraint::Relation;
-use monitor::Monitor;
+use lent::Monitor;
 
 // done clockDef await 2 ack.
 fn done() -> Constraint {
@@ -38,7 +38,7 @@ pub fn cases() {
         65,
         0,
     );
-    console::say_report(monitor::run(
+    console::say_report(run::run(
         b"req strictly precedes ack\ndone clockDef await 2 ack\n",
         b"$var event 1 ! req $end $var event 1 \" ack $end $var event 1 % done $end $enddefinitions $end #0 1! #3 #5 1\" 1! #8 1\" 1% #9 1! 1\"",
     ));

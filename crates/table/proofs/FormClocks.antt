@@ -23,14 +23,14 @@ use Rattle.text.specs.declared.Class.the-variants.{NameByte}
 use Rattle.text.specs.declared.Number.{Number}
 use Rattle.text.specs.declared.Number.the-variants.{NotDigits, TooLarge, Value}
 use Rattle.text.specs.declared.Span.{Span}
-use Rattle.table.specs.Grammar.{Parsed, noForm, parsed, andThen, onlyIf, Placed, Formed, token, clockOf, operand, strictKind, plain, kindAt, isKind, second, pair, upToMillion, awaitNumber, awaitSide, Kinded, expression, isSide, atEnd, closed, lineForm, clockAt}
-use Rattle.table.specs.Names.{numberIn}
+use Rattle.grammar.specs.Grammar.{Parsed, noForm, parsed, andThen, onlyIf, Placed, Formed, token, clockOf, operand, strictKind, plain, kindAt, isKind, second, pair, upToMillion, awaitNumber, awaitSide, Kinded, expression, isSide, atEnd, closed, lineForm, clockAt}
+use Rattle.grammar.specs.Names.{numberIn}
 use Rattle.table.specs.Reader.{anyWord, fails}
-use Rattle.table.specs.Tokens.{is, Spelled, shapeOf, lookUp, formWords, tokenOf}
-use Rattle.table.specs.declared.Builder.{Builder}
-use Rattle.table.specs.declared.Check.the-variants.{BadNumber}
-use Rattle.table.specs.declared.Names.{Names}
-use Rattle.table.specs.declared.Token.the-variants.{End, Other, Name, Digits, ClockDef, Await, Strictly}
+use Rattle.grammar.specs.Tokens.{is, Spelled, shapeOf, lookUp, formWords, tokenOf}
+use Rattle.grammar.specs.declared.Builder.{Builder}
+use Rattle.table.specs.declared.WordCheck.the-variants.{BadNumber}
+use Rattle.grammar.specs.declared.Names.{Names}
+use Rattle.grammar.specs.declared.Token.the-variants.{End, Other, Name, Digits, ClockDef, Await, Strictly}
 use Rattle.table.proofs.NamesKnown.{nameClocks}
 
 -- ---- some of a list, in their order

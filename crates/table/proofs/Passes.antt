@@ -22,12 +22,12 @@ use Rattle.text.specs.Bytes.{inClass, allBytes}
 use Rattle.text.specs.Split.{piecesAt}
 use Rattle.text.specs.declared.Class.the-variants.{Newline, Printable}
 use Rattle.text.specs.declared.Span.{Span}
-use Rattle.table.specs.Grammar.{Parsed, noForm, parsed, Formed, lineWords, operand, lineForm}
-use Rattle.table.specs.Names.{withWords}
+use Rattle.grammar.specs.Grammar.{Parsed, noForm, parsed, Formed, lineWords, operand, lineForm}
+use Rattle.grammar.specs.Names.{withWords}
 use Rattle.table.specs.Reader.{anyWord, fails, Step, next, stopped, refuseIf, onItsLine, withConstraint, addLine, formStep, withNames, unlessBlank, lineStep, read, Told, refusedTable, start, onLine, andThen, readLines, readTable, Passes, EveryTablePasses}
-use Rattle.table.specs.declared.Builder.{Builder}
-use Rattle.table.specs.declared.Check.the-variants.{LongName, BadNumber, Twice}
-use Rattle.table.specs.declared.Names.{Names}
+use Rattle.grammar.specs.declared.Builder.{Builder}
+use Rattle.table.specs.declared.WordCheck.the-variants.{LongName, BadNumber, Twice}
+use Rattle.grammar.specs.declared.Names.{Names}
 use Rattle.table.proofs.FormClocks.{within-below, within-distinct, Each, Line, line-made}
 use Rattle.table.proofs.NamesKnown.{AllKnown, Grown, all-words, nameClocks, names-below, names-distinct}
 

@@ -20,11 +20,11 @@ use Rattle.limit.specs.declared.Refusal.{Refusal}
 use Rattle.constraint.specs.Meaning.{definedOf}
 use Rattle.constraint.specs.Ticks.{any, bits}
 use Rattle.constraint.specs.declared.Constraint.{Constraint}
-use Rattle.table.specs.Grammar.{Parsed, noForm, parsed, Formed, lineWords}
+use Rattle.grammar.specs.Grammar.{Parsed, noForm, parsed, Formed, lineWords}
 use Rattle.table.specs.Reader.{anyWord, fails, Step, next, stopped, stop, refuseIf, withConstraint, addLine, formStep, wordsStep, unlessBlank, lineStep, step, Told, read, refusedTable, start, onLine, andThen, readLines, readTable}
-use Rattle.table.specs.declared.Builder.{Builder}
-use Rattle.table.specs.declared.Check.the-variants.{LongName, BadNumber, Twice}
-use Rattle.table.specs.declared.Outcome.the-variants.{Read, Refused}
+use Rattle.grammar.specs.declared.Builder.{Builder}
+use Rattle.table.specs.declared.WordCheck.the-variants.{LongName, BadNumber, Twice}
+use Rattle.limit.specs.declared.Check.the-variants.{Passed, Refused}
 
 -- ---- a test of some word
 module _ (t : List ℕ) (p : Span → List Span → Bool) where
@@ -54,7 +54,7 @@ module _ (t : List ℕ) (p : Span → List Span → Bool) where
       any-on e = turn ∙ rw e
 
 -- ---- the checks of a line
-pub step-read : (b : Builder) → step Read b ≡ next b
+pub step-read : (b : Builder) → step Passed b ≡ next b
 unfolding step
 step-read b = refl
 

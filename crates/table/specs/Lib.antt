@@ -1,4 +1,1 @@
-pub mod Grammar
-pub mod Names
 pub mod Reader
-pub mod Tokens

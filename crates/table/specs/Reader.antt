@@ -20,18 +20,18 @@ use Rattle.text.specs.Bytes.{inClass, allBytes, sameBytes}
 use Rattle.text.specs.Split.{span, bytesOf, piecesAt, front}
 use Rattle.text.specs.declared.Class.the-variants.{Newline, Printable}
 use Rattle.text.specs.declared.Span.{Span}
-use Rattle.table.specs.Grammar.{Parsed, noForm, parsed, Formed, lineWords, awaitNumber, operand, lineForm}
-use Rattle.table.specs.Names.{withWords}
-use Rattle.table.specs.Tokens.{is, tokenOf}
-use Rattle.table.specs.declared.Builder.{Builder}
-use Rattle.table.specs.declared.Check.{Check}
-use Rattle.table.specs.declared.Check.the-variants.{LongName, BadNumber, Twice}
+use Rattle.grammar.specs.Grammar.{Parsed, noForm, parsed, Formed, lineWords, awaitNumber, operand, lineForm}
+use Rattle.grammar.specs.Names.{withWords}
+use Rattle.grammar.specs.Tokens.{is, tokenOf}
+use Rattle.grammar.specs.declared.Builder.{Builder}
+use Rattle.table.specs.declared.WordCheck.{WordCheck}
+use Rattle.table.specs.declared.WordCheck.the-variants.{LongName, BadNumber, Twice}
 use Rattle.table.specs.declared.LineRead.{LineRead}
-use Rattle.table.specs.declared.Outcome.{Outcome}
-use Rattle.table.specs.declared.Outcome.the-variants.{Read, Refused}
-use Rattle.table.specs.declared.Table.{Table}
+use Rattle.limit.specs.declared.Check.{Check}
+use Rattle.limit.specs.declared.Check.the-variants.{Passed, Refused}
+use Rattle.grammar.specs.declared.Table.{Table}
 use Rattle.table.specs.declared.TableRead.{TableRead}
-use Rattle.table.specs.declared.Token.the-variants.{Name, Await}
+use Rattle.grammar.specs.declared.Token.the-variants.{Name, Await}
 
 -- ---- what is asked of a word w of a line that has a form; ws are the words after it
 
@@ -55,7 +55,7 @@ badNumber t w ws = is Await (tokenOf (bytesOf t w)) && eqb (awaitNumber (bytesOf
 abbrev pub twice : List ℕ → Span → List Span → Bool
 twice t w ws = is Name (tokenOf (bytesOf t w)) && anyWord (sameAs t (bytesOf t w)) ws
 
-abbrev pub fails : Check → List ℕ → Span → List Span → Bool
+abbrev pub fails : WordCheck → List ℕ → Span → List Span → Bool
 fails LongName t w ws = longName t w
 fails BadNumber t w ws = badNumber t w ws
 fails Twice t w ws = twice t w ws
@@ -124,8 +124,8 @@ abbrev pub lineStep : List ℕ → Builder → ℕ → Step
 lineStep t b from = refuseIf (not (allBytes (inClass Printable) (drop from t))) LineByte b (unlessBlank t b (lineWords t from))
 
 -- what a line's reader in code answers stands for
-unfoldable pub step : Outcome → Builder → Step
-step Read b = next b
+unfoldable pub step : Check → Builder → Step
+step Passed b = next b
 step (Refused r) b = stopped (r .limit) (r .place)
 
 abbrev pub stepOf : LineRead → Step
@@ -138,8 +138,8 @@ pub data Said : Type 0 where
   read : Said
   refused : (number place : ℕ) → Said
 
-abbrev pub said : Outcome → Said
-said Read = read
+abbrev pub said : Check → Said
+said Passed = read
 said (Refused r) = refused (numberOf (r .limit)) (r .place .0)
 
 pub record Told : Type 0 where

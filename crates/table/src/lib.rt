@@ -1,94 +1,21 @@
 // Table text into records and names, or the first refusal of 10 to 18: document 01, "Table text" and the first two rows of
 // "Where each refusal is checked".
 
-mod line;
-mod naming;
 mod reader;
-mod words;
 
-use constraint::Constraint;
-use constraint::Kind;
-use limit::Place;
-use limit::Refusal;
-pub use naming::find_name;
+use grammar::Builder;
+use grammar::Table;
+use limit::Check;
 pub use reader::read_table;
-use text::Span;
-
-// What a word is to the line reader: a word of a form, a clock's name, digits, any other word, or none at a line's end.
-pub enum Token {
-    End,
-    Other,
-    Name,
-    Digits,
-    ClockDef,
-    Await,
-    Strictly,
-    Form(Kind),
-}
-
-// The number of a clock, if the table names it.
-pub enum Found {
-    At(u8),
-    Nothing,
-}
-
-// Where the names of the table's clocks first stand, in the order of their numbers, and whether a 33rd was named.
-pub struct Names {
-    pub spans: [Span; 32],
-    pub count: usize,
-    pub over: bool,
-}
-
-// The records in table order, the slots after them being empty, and the names of their clocks.
-pub struct Table {
-    pub records: [Constraint; 64],
-    pub count: usize,
-    pub names: Names,
-}
-
-// Whether a table was read, or which refusal came first.
-pub enum Outcome {
-    Read,
-    Refused(Refusal),
-}
 
 // What reading a table answers. A refused table is empty.
 pub struct TableRead {
-    pub outcome: Outcome,
+    pub outcome: Check,
     pub table: Table,
-}
-
-// The table so far, the clocks that it defines as a tick set, and the line that is read.
-pub struct Builder {
-    pub table: Table,
-    pub defined: u32,
-    pub line: Place,
-}
-
-// What an operand's reader answers: whether an operand stands there, where it ends, the table with it, and its clock.
-pub struct OperandRead {
-    pub fits: bool,
-    pub at: usize,
-    pub builder: Builder,
-    pub clock: u8,
-}
-
-// What the reader of a kind answers: the kind, empty where none stands there, and where its words end.
-pub struct KindRead {
-    pub kind: Kind,
-    pub at: usize,
-}
-
-// What the reader of a form answers: whether it fits, where it ends, the table with its operands, and its constraint.
-pub struct FormRead {
-    pub fits: bool,
-    pub at: usize,
-    pub builder: Builder,
-    pub constraint: Constraint,
 }
 
 // What is asked of each word of a line that has a form.
-pub enum Check {
+pub enum WordCheck {
     LongName,
     BadNumber,
     Twice,
@@ -96,6 +23,6 @@ pub enum Check {
 
 // What a line does: the first refusal, or the table with it.
 pub struct LineRead {
-    pub outcome: Outcome,
+    pub outcome: Check,
     pub builder: Builder,
 }

@@ -1,18 +1,18 @@
 // Lines in their order, each with its checks in theirs, and the whole table.
-use super::Builder;
-use super::Check;
 use super::LineRead;
-use super::Names;
-use super::Outcome;
-use super::Table;
 use super::TableRead;
-use super::Token;
-use super::line::await_number;
-use super::line::is_name;
-use super::line::line_form;
-use super::naming::with_words;
-use super::words::token_at;
+use super::WordCheck;
 use constraint::Constraint;
+use grammar::Builder;
+use grammar::Names;
+use grammar::Table;
+use grammar::Token;
+use grammar::await_number;
+use grammar::is_name;
+use grammar::line_form;
+use grammar::token_at;
+use grammar::with_words;
+use limit::Check;
 use limit::Limit;
 use limit::Place;
 use limit::Refusal;
@@ -20,7 +20,7 @@ use text::Class;
 use text::Span;
 ghost use mathlib.Core.Path.{_≡_};
 ghost use Rattle.text.specs.Split.{bytesOf};
-ghost use Rattle.table.specs.Grammar.{lineWords};
+ghost use Rattle.grammar.specs.Grammar.{lineWords};
 ghost use Rattle.table.specs.Reader as d;
 
 // Whether a word stands again among those from an offset on.
@@ -70,18 +70,18 @@ fn named_twice(line: &[u8], word: Span) -> bool
 }
 
 // Whether a word fails a check.
-fn fails(check: Check, line: &[u8], word: Span) -> bool
+fn fails(check: WordCheck, line: &[u8], word: Span) -> bool
     ensures { λ r. ⌜ r ≡ d.fails check (now (line .entry)) word (lineWords (now (line .entry)) (word .end)) ⌝ }
 {
     match check {
-        Check::LongName => long_name(line, word),
-        Check::BadNumber => bad_number(line, word),
-        Check::Twice => named_twice(line, word),
+        WordCheck::LongName => long_name(line, word),
+        WordCheck::BadNumber => bad_number(line, word),
+        WordCheck::Twice => named_twice(line, word),
     }
 }
 
 // Whether some word from an offset on fails a check.
-fn any_word(check: Check, line: &[u8], from: usize) -> bool
+fn any_word(check: WordCheck, line: &[u8], from: usize) -> bool
     ensures { λ r. ⌜ r ≡ d.anyWord (d.fails check (now (line .entry))) (lineWords (now (line .entry)) from) ⌝ }
 {
     let mut at = from;
@@ -104,7 +104,7 @@ fn refuse(builder: Builder, limit: Limit) -> LineRead
 {
     let place = builder.line;
     LineRead {
-        outcome: Outcome::Refused(Refusal { limit, place }),
+        outcome: Check::Refused(Refusal { limit, place }),
         builder,
     }
 }
@@ -147,7 +147,7 @@ fn add_line(builder: Builder, constraint: Constraint) -> LineRead
         return refuse(builder, Limit::TableConstraints);
     }
     LineRead {
-        outcome: Outcome::Read,
+        outcome: Check::Passed,
         builder: with_constraint(builder, constraint),
     }
 }
@@ -179,13 +179,13 @@ fn read_words(line: &[u8], builder: Builder, from: usize) -> LineRead
     if !form.fits {
         return refuse(builder, Limit::LineForm);
     }
-    if any_word(Check::LongName, line, from) {
+    if any_word(WordCheck::LongName, line, from) {
         return refuse(builder, Limit::NameLength);
     }
-    if any_word(Check::BadNumber, line, from) {
+    if any_word(WordCheck::BadNumber, line, from) {
         return refuse(builder, Limit::AwaitNumber);
     }
-    if any_word(Check::Twice, line, from) {
+    if any_word(WordCheck::Twice, line, from) {
         return refuse(builder, Limit::ClockTwice);
     }
     let formed = form.builder;
@@ -205,7 +205,7 @@ fn read_line(line: &[u8], builder: Builder, from: usize) -> LineRead
         return read_words(line, builder, from);
     }
     LineRead {
-        outcome: Outcome::Read,
+        outcome: Check::Passed,
         builder,
     }
 }
@@ -230,7 +230,7 @@ fn refused(refusal: Refusal) -> TableRead
     ensures { λ r. ⌜ d.told r ≡ d.refusedTable refusal ⌝ }
 {
     TableRead {
-        outcome: Outcome::Refused(refusal),
+        outcome: Check::Refused(refusal),
         table: empty_table(),
     }
 }
@@ -266,7 +266,7 @@ pub fn read_table(text: &[u8]) -> TableRead
         let end = text::run_end(Class::Newline, false, text, at);
         let step = read_line(&text[..end], on_line(builder, line), at);
         let outcome = step.outcome;
-        if let Outcome::Refused(refusal) = outcome {
+        if let Check::Refused(refusal) = outcome {
             return refused(refusal);
         }
         builder = step.builder;
@@ -275,7 +275,7 @@ pub fn read_table(text: &[u8]) -> TableRead
     }
     let table = builder.table;
     TableRead {
-        outcome: Outcome::Read,
+        outcome: Check::Passed,
         table,
     }
 }

@@ -5,10 +5,10 @@ use console::say_field;
 use console::say_refusal;
 use console::say_word;
 use constraint::Constraint;
+use grammar::Names;
+use grammar::Table;
+use limit::Check;
 use limit::Refusal;
-use table::Names;
-use table::Outcome;
-use table::Table;
 use text::Span;
 
 // The line of a refusal.
@@ -99,7 +99,7 @@ pub fn answer(text: &[u8]) {
     let outcome = answer.outcome;
     let table = answer.table;
     match outcome {
-        Outcome::Read => read(text, table),
-        Outcome::Refused(refusal) => refused(refusal),
+        Check::Passed => read(text, table),
+        Check::Refused(refusal) => refused(refusal),
     }
 }

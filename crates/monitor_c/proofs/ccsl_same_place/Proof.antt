@@ -7,7 +7,7 @@ use lib.ListN.{length, replicate}
 use lib.Seq.{sets}
 use Rattle.constraint.specs.Lists.{empty}
 use Rattle.constraint.specs.SamePlace.{samePlaceOf}
-use Rattle.monitor.specs.Lent.{lent}
+use Rattle.lent.specs.Lent.{lent}
 use Rattle.monitor_c.specs.Calls.{written, done, answerLeft, placeLeft}
 use Rattle.monitor_c.specs.Numbers.{clockOf, recordsOf, configurationOf, threeAnd}
 use Rattle.monitor_c.proofs.CallLaws.{place-answer-short, place-first-short, place-second-short, place-ragged, place-unknown, place-done}

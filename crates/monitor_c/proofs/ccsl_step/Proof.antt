@@ -6,8 +6,8 @@ use borrow.Author.Tests.{not-true, not-false}
 use lib.ListN.{length, replicate}
 use lib.Seq.{sets}
 use Rattle.constraint.specs.Lists.{empty}
-use Rattle.monitor.specs.Lent.{lent}
-use Rattle.monitor.specs.Single.{stepOf, stepSaid}
+use Rattle.lent.specs.Lent.{lent}
+use Rattle.judging.specs.Single.{stepOf, stepSaid}
 use Rattle.monitor_c.specs.Calls.{written, done, left, stepLeft}
 use Rattle.monitor_c.specs.Numbers.{clockOf, recordsOf, configurationOf, ofStep, threeAnd}
 use Rattle.monitor_c.proofs.CallLaws.{step-answer-short, step-words-short, step-ragged, step-unknown, step-done}

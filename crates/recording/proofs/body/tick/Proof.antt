@@ -1,6 +1,6 @@
 -- `tick` meets its contract. Assumes nothing.
 use mathlib.Core.Path.{sym, _∙_}
-use Rattle.recording.proofs.CheckLaws.{refuses, allows}
+use Rattle.limit.proofs.CheckLaws.{refuses, allows}
 use borrow.Author.Needs.{needs}
 use Rattle.recording.proofs.body.tick.Statement.{statement}
 use Rattle.recording.proofs.body.tick.Tie as tie

@@ -1,7 +1,7 @@
 -- `variable` meets its contract. Assumes nothing.
 use mathlib.Core.Path.{sym, ap, _∙_}
 use Rattle.recording.specs.Body.{foundTurn}
-use Rattle.recording.proofs.CheckLaws.{refuses, allows}
+use Rattle.limit.proofs.CheckLaws.{refuses, allows}
 use borrow.Author.Needs.{needs}
 use Rattle.recording.proofs.body.variable.Statement.{statement}
 use Rattle.recording.proofs.body.variable.Tie as tie

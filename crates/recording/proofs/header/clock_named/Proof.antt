@@ -1,6 +1,6 @@
 -- `clock_named` meets its contract. Assumes nothing.
 use mathlib.Core.Path.{sym, ap, _∙_}
-use Rattle.table.specs.Grammar.{clockOf}
+use Rattle.grammar.specs.Grammar.{clockOf}
 use borrow.Author.Needs.{needs}
 use Rattle.recording.proofs.header.clock_named.Statement.{statement}
 use Rattle.recording.proofs.header.clock_named.Tie as tie

@@ -8,7 +8,7 @@ use Rattle.text.specs.Split.{bytesOf}
 use Rattle.text.specs.declared.Class.the-variants.{Parting}
 use Rattle.text.proofs.Runs.{is-word, is-last}
 use Rattle.recording.specs.Header.{says}
-use Rattle.recording.proofs.CheckLaws.{stops}
+use Rattle.limit.proofs.CheckLaws.{stops}
 use Rattle.recording.proofs.HeaderLaws.{close-cut, close-other, close-lacks, close-all}
 use borrow.Author.Needs.{needs}
 use Rattle.recording.proofs.header.close.Statement.{statement}

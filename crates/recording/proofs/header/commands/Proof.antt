@@ -13,7 +13,7 @@ use Rattle.text.proofs.Runs.{is-last, words-over}
 use Rattle.recording.specs.Header.{words, commandOf, header}
 use Rattle.recording.specs.Variables.{clockNamed, declared}
 use Rattle.recording.specs.declared.Command.{Command}
-use Rattle.recording.proofs.CheckLaws.{stops, goes-on, ends-there}
+use Rattle.limit.proofs.CheckLaws.{stops, goes-on, ends-there}
 use Rattle.recording.proofs.HeaderLaws.{header-cut, opens-skipped, opens-declaration, opens-definitions, opens-nothing}
 use borrow.Author.Needs.{needs}
 use Rattle.recording.proofs.header.commands.Statement.{statement}

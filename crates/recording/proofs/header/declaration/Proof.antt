@@ -2,8 +2,8 @@
 use mathlib.Core.Path.{_≡_, sym, _∙_}
 use Prim.Native.Nat.{ℕ}
 use native.Mathlib.Omega.{arith}
-use Rattle.recording.proofs.CheckLaws.{stops, stays-stopped, then-same, left-after}
-use Rattle.recording.proofs.HeaderLaws.{declaring-cut, declaring-five, five-forward}
+use Rattle.limit.proofs.CheckLaws.{stops, stays-stopped, then-same}
+use Rattle.recording.proofs.HeaderLaws.{declaring-cut, declaring-five, five-forward, left-after}
 use borrow.Author.Needs.{needs}
 use Rattle.recording.proofs.header.declaration.Statement.{statement}
 use Rattle.recording.proofs.header.declaration.Tie as tie

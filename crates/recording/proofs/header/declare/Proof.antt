@@ -7,7 +7,7 @@ use denote.Ref.{now}
 use lib.ListN.{length}
 use Rattle.constraint.proofs.Walk.{length-mapped}
 use Rattle.text.specs.Split.{bytesOf}
-use Rattle.recording.specs.Checks.{passed}
+use Rattle.limit.specs.Checked.{passed}
 use Rattle.recording.specs.Header.{shaped}
 use Rattle.recording.specs.Variables.{clockNamed, lookUp, isDeclared, clockAgain, declared}
 use Rattle.recording.proofs.HeaderLaws.{shaped-short, declare-shape, declare-twice, declare-full, declare-more}

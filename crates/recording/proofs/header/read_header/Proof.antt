@@ -1,7 +1,7 @@
 -- `read_header` meets its contract: 30, 31, then the commands. Assumes nothing.
 use mathlib.Core.Path.{sym, _∙_}
 use native.Mathlib.Omega.{arith}
-use Rattle.recording.proofs.CheckLaws.{stops}
+use Rattle.limit.proofs.CheckLaws.{stops}
 use Rattle.recording.proofs.HeaderLaws.{opened-long, opened-other, opened-header}
 use borrow.Author.Needs.{needs}
 use Rattle.recording.proofs.header.read_header.Statement.{statement}

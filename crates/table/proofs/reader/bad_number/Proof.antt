@@ -1,8 +1,8 @@
 -- `bad_number` meets its contract. Assumes nothing.
 use mathlib.Core.List.{[], _∷_}
 use types.Run.{miss}
-use Rattle.table.specs.declared.Token.the-variants.{Await}
-use Rattle.table.proofs.TokenLaws.{is-other, is-same}
+use Rattle.grammar.specs.declared.Token.the-variants.{Await}
+use Rattle.grammar.proofs.TokenLaws.{is-other, is-same}
 use borrow.Author.Needs.{needs}
 use Rattle.table.proofs.reader.bad_number.Statement.{statement}
 use Rattle.table.proofs.reader.bad_number.Tie as tie

@@ -11,7 +11,7 @@ use Rattle.text.specs.declared.Class.the-variants.{Newline}
 use Rattle.text.proofs.Runs.{run-from, run-within}
 use mathlib.Core.Bool.{false}
 use Rattle.table.specs.Reader.{step, stepOf, lineStep, onLine, readTable}
-use Rattle.table.specs.declared.Outcome.{Outcome}
+use Rattle.limit.specs.declared.Check.{Check}
 use Rattle.table.proofs.ReaderLaws.{LinesFrom, step-read, step-refused, lines-done, lines-stop, lines-on, refused-10, table-lines}
 use Rattle.table.proofs.reader.read_table.Statement.{statement}
 use Rattle.table.proofs.reader.read_table.Tie as tie
@@ -53,7 +53,7 @@ returns-2 c =
     let k = l e in
     let o = c .before .before .outcome .given .1 in
     c .refused2 .ensures
-    ∙ sym (lines-stop (text k) (k .loop .at) (e .run-end .result) (k .loop .line) (k .loop .builder) (e .before .loop-test .taken) (e .run-end .ensures) _ (sym (stepped r) ∙ (ap (λ (x : Outcome). step x (r .read-line .result .builder)) o ∙ step-refused _ _)))
+    ∙ sym (lines-stop (text k) (k .loop .at) (e .run-end .result) (k .loop .line) (k .loop .builder) (e .before .loop-test .taken) (e .run-end .ensures) _ (sym (stepped r) ∙ (ap (λ (x : Check). step x (r .read-line .result .builder)) o ∙ step-refused _ _)))
     ∙ k .loop .inv .2
 
 loop-again : tie.Need-loop-again Inv-loop μ-loop

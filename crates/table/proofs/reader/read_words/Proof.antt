@@ -2,9 +2,9 @@
 use mathlib.Core.Path.{_≡_, sym, _∙_}
 use borrow.Author.Tests.{not-true, not-false}
 use denote.Ref.{now}
-use Rattle.table.specs.Grammar.{parsed, lineWords, operand, lineForm, formRead}
+use Rattle.grammar.specs.Grammar.{parsed, lineWords, operand, lineForm, formRead}
 use Rattle.table.specs.Reader.{withNames}
-use Rattle.table.proofs.GrammarLaws.{form-not, form-is}
+use Rattle.grammar.proofs.GrammarLaws.{form-not, form-is}
 use Rattle.table.proofs.ReaderLaws.{refused-12, refused-13, refused-14, refused-15, to-add}
 use borrow.Author.Needs.{needs}
 use Rattle.table.proofs.reader.read_words.Statement.{statement}

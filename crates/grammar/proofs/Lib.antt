@@ -1,0 +1,3 @@
+pub mod GrammarLaws
+pub mod NameLaws
+pub mod TokenLaws

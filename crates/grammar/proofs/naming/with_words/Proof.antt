@@ -1,0 +1,47 @@
+-- `with_words` meets its contract. The invariant: the words from at on decide, with the names so far. The measure is what is left of the line. Assumes nothing.
+use mathlib.Core.Path.{_≡_, refl, sym, _∙_}
+use Prim.Native.Nat.{_-_}
+use native.Mathlib.Omega.{arith}
+use denote.Ref.{now}
+use lib.ListN.{length}
+use Rattle.text.specs.Bytes.{inClass}
+use Rattle.text.specs.Split.{wordsAt}
+use Rattle.text.specs.declared.Class.the-variants.{Space}
+use Rattle.text.proofs.Runs.{words-over}
+use Rattle.grammar.specs.Names.{withWords}
+use Rattle.grammar.proofs.NameLaws.{words-none, words-turn}
+use borrow.Author.Needs.{needs}
+use Rattle.grammar.proofs.naming.with_words.Statement.{statement}
+use Rattle.grammar.proofs.naming.with_words.Tie as tie
+
+abbrev Inv-loop : tie.InvT-loop
+Inv-loop line from all₀ at₀ all at = withWords line all (wordsAt (inClass Space) line at) ≡ withWords line all₀ (wordsAt (inClass Space) line from)
+
+abbrev μ-loop : tie.MeasureT-loop
+μ-loop line from all₀ at₀ all at = length line - at
+
+loop-again : tie.Need-loop-again Inv-loop μ-loop
+loop-again c =
+    let w = c .before .next-word in
+    let l = c .before .before .before in
+    let t = now (l .before .before .args .line) in
+    rw (c .with-word .ensures) (sym (words-turn t (l .loop .all) (l .loop .at) (w .result) (w .ensures)) ∙ l .loop .inv)
+
+returns : tie.Need-returns Inv-loop μ-loop
+returns c =
+    let l = c .before in
+    let t = now (l .before .before .args .line) in
+    sym (words-none t (l .loop .all) _ (words-over t (inClass Space) (l .loop .at) (c .loop-test .left))) ∙ l .loop .inv
+
+pub with-words-spec : {M : Type 1} → statement M
+with-words-spec =
+    tie.close
+    (tie.spec
+    Inv-loop
+    μ-loop
+    (λ c. refl)
+    (λ c κs. search needs)
+    (λ c κs. search needs)
+    (λ c. omega (arith, c .before .next-word .ensures .forward (c .before .before .loop-test .taken)))
+    loop-again
+    returns)

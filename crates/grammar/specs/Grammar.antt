@@ -1,0 +1,201 @@
+-- The forms of a line, as readers of its words: what stands at their front, and the words after it (document 01, "Table text").
+-- Every reader but that of an operand takes the reader of operands, so that only this one says that an operand is one word.
+-- t is the text up to the line's end. Assumes nothing.
+use mathlib.Core.Bool.{Bool, true, false, not, cond, _&&_}
+use mathlib.Core.List.{List, [], _∷_}
+use Prim.Native.Nat.{ℕ}
+use lib.Dec.{leb}
+use Rattle.constraint.specs.declared.Constraint.{Constraint}
+use Rattle.constraint.specs.declared.Definition.{Definition}
+use Rattle.constraint.specs.declared.Definition.the-variants.{Union, Inter, Lub, Glb, Await as AwaitKind, StrictlySampled, Sampled, Upto}
+use Rattle.constraint.specs.declared.Kind.{Kind}
+use Rattle.constraint.specs.declared.Kind.the-variants.{Empty, Relates, Defines}
+use Rattle.constraint.specs.declared.Parameter.{Parameter}
+use Rattle.constraint.specs.declared.Relation.{Relation}
+use Rattle.constraint.specs.declared.Relation.the-variants.{Coincides, Excludes, SubClock, StrictlyPrecedes, Precedes}
+use Rattle.text.specs.Bytes.{inClass}
+use Rattle.text.specs.Digits.{number}
+use Rattle.text.specs.Split.{bytesOf, wordsAt, front, rest}
+use Rattle.text.specs.declared.Class.the-variants.{Space}
+use Rattle.text.specs.declared.Number.{Number}
+use Rattle.text.specs.declared.Number.the-variants.{NotDigits, TooLarge, Value}
+use Rattle.text.specs.declared.Span.{Span}
+use Rattle.grammar.specs.Names.{numberIn}
+use Rattle.grammar.specs.Tokens.{is, tokenOf}
+use Rattle.grammar.specs.declared.Builder.{Builder}
+use Rattle.grammar.specs.declared.FormRead.{FormRead}
+use Rattle.grammar.specs.declared.Found.{Found}
+use Rattle.grammar.specs.declared.Found.the-variants.{At, Nothing}
+use Rattle.grammar.specs.declared.KindRead.{KindRead}
+use Rattle.grammar.specs.declared.OperandRead.{OperandRead}
+use Rattle.grammar.specs.declared.Token.{Token}
+use Rattle.grammar.specs.declared.Token.the-variants.{End, Other, Name, Digits, ClockDef, Await, Strictly, Form}
+
+-- the words of a line: parted by one or more spaces
+abbrev pub lineWords : List ℕ → ℕ → List Span
+lineWords t at = wordsAt (inClass Space) t at
+
+-- what the first word is
+abbrev pub token : List ℕ → List Span → Token
+token t ws = tokenOf (bytesOf t (front t ws))
+
+-- a reading: no form fits, or what was read and the words after it
+pub data Parsed (A : Type 0) : Type 0 where
+  noForm : Parsed A
+  parsed : A → List Span → Parsed A
+
+unfoldable pub andThen : {A B : Type 0} → Parsed A → (A → List Span → Parsed B) → Parsed B
+andThen noForm f = noForm
+andThen (parsed a ws) f = f a ws
+
+unfoldable pub onlyIf : {A : Type 0} → Bool → Parsed A → Parsed A
+onlyIf true p = p
+onlyIf false p = noForm
+
+-- an operand that was read: the table with it, and its clock
+pub record Placed : Type 0 where
+  pub builder : Builder
+  pub clock : ℕ
+
+-- a form that was read: the table with its operands, and its constraint
+pub record Formed : Type 0 where
+  pub builder : Builder
+  pub constraint : Constraint
+
+-- ---- operands
+
+abbrev pub clockOf : Found → ℕ
+clockOf (At k) = k
+clockOf Nothing = 32
+
+-- the clock whose name a word is
+abbrev pub clockAt : List ℕ → Builder → Span → ℕ
+clockAt t b w = clockOf (numberIn t (b .table .names) (bytesOf t w))
+
+-- the reader of operands: one name
+unfoldable pub operand : List ℕ → Builder → List Span → Parsed Placed
+operand t b ws = onlyIf (is Name (token t ws)) (parsed (record { builder = b; clock = clockAt t b (front t ws) }) (rest ws))
+
+-- ---- kinds: one word, or two where the first is `strictly`
+
+abbrev pub strictRelation : Relation → Kind
+strictRelation Coincides = Empty
+strictRelation Excludes = Empty
+strictRelation SubClock = Empty
+strictRelation StrictlyPrecedes = Empty
+strictRelation Precedes = Relates StrictlyPrecedes
+
+abbrev pub strictDefinition : Definition → Kind
+strictDefinition Union = Empty
+strictDefinition Inter = Empty
+strictDefinition Lub = Empty
+strictDefinition Glb = Empty
+strictDefinition AwaitKind = Empty
+strictDefinition StrictlySampled = Empty
+strictDefinition Sampled = Defines StrictlySampled
+strictDefinition Upto = Empty
+
+abbrev pub strictKind : Kind → Kind
+strictKind Empty = Empty
+strictKind (Relates k) = strictRelation k
+strictKind (Defines k) = strictDefinition k
+
+-- the kind that one word says, empty for none
+abbrev pub plain : Token → Kind
+plain End = Empty
+plain Other = Empty
+plain Name = Empty
+plain Digits = Empty
+plain ClockDef = Empty
+plain Await = Empty
+plain Strictly = Empty
+plain (Form k) = k
+
+-- a kind that was read, and the words after it
+pub record Kinded : Type 0 where
+  pub kind : Kind
+  pub after : List Span
+
+unfoldable pub kindAt : List ℕ → List Span → Kinded
+kindAt t ws =
+    cond (is Strictly (token t ws))
+    (record { kind = strictKind (plain (token t (rest ws))); after = rest (rest ws) })
+    (record { kind = plain (token t ws); after = rest ws })
+
+abbrev pub isKind : Kind → Bool
+isKind Empty = false
+isKind (Relates k) = true
+isKind (Defines k) = true
+
+-- ---- forms, over the reader of operands
+
+abbrev pub sides : Kind → (first second : ℕ) → Parameter → Constraint
+sides k a b n = record { kind = k; defined = 0; first = a; second = b; parameter = n; line = record { 0 = 0 } }
+
+abbrev pub Operands : Type 0
+Operands = Builder → List Span → Parsed Placed
+
+-- the second operand of a pair whose first is a
+unfoldable pub second : Operands → Kinded → Placed → Parsed Formed
+second operands k a =
+    onlyIf (isKind (k .kind))
+    (andThen (operands (a .builder) (k .after)) (λ b ws. parsed (record { builder = b .builder; constraint = sides (k .kind) (a .clock) (b .clock) (record { 0 = 0 }) }) ws))
+
+-- two operands with a kind between them
+unfoldable pub pair : List ℕ → Operands → Builder → List Span → Parsed Formed
+pair t operands b ws = andThen (operands b ws) (λ a us. second operands (kindAt t us) a)
+
+-- the number of an await is the value of its digits; 0 stands for one above 1,000,000
+abbrev pub upToMillion : Number → ℕ
+upToMillion NotDigits = 0
+upToMillion TooLarge = 0
+upToMillion (Value n) = cond (leb n 1_000_000) n 0
+
+abbrev pub awaitNumber : List ℕ → ℕ
+awaitNumber ds = upToMillion (number ds)
+
+-- a number and an operand, behind `await`
+unfoldable pub awaitSide : List ℕ → Operands → Builder → List Span → Parsed Formed
+awaitSide t operands b ws =
+    onlyIf (is Digits (token t ws))
+    (andThen (operands b (rest ws)) (λ a us. parsed (record { builder = a .builder; constraint = sides (Defines AwaitKind) (a .clock) 0 (record { 0 = awaitNumber (bytesOf t (front t ws)) }) }) us))
+
+-- a right side of clockDef
+unfoldable pub expression : List ℕ → Operands → Builder → List Span → Parsed Formed
+expression t operands b ws = cond (is Await (token t ws)) (awaitSide t operands b (rest ws)) (pair t operands b ws)
+
+-- ---- lines
+
+-- a kind of the side that a line asks for: a definition behind clockDef, a relation without it
+abbrev pub isSide : Bool → Kind → Bool
+isSide d Empty = false
+isSide d (Relates k) = not d
+isSide d (Defines k) = d
+
+abbrev pub defining : ℕ → Constraint → Constraint
+defining c r = record { kind = r .kind; defined = c; first = r .first; second = r .second; parameter = r .parameter; line = r .line }
+
+unfoldable pub atEnd : Bool → ℕ → Formed → List Span → Parsed Formed
+atEnd d c f [] = onlyIf (isSide d (f .constraint .kind)) (parsed (record { builder = f .builder; constraint = defining c (f .constraint) }) [])
+atEnd d c f (w ∷ ws) = noForm
+
+-- a form after which no word is left, and which defines the clock c
+abbrev pub closed : Bool → ℕ → Parsed Formed → Parsed Formed
+closed d c p = andThen p (atEnd d c)
+
+unfoldable pub lineForm : List ℕ → Operands → Builder → List Span → Parsed Formed
+lineForm t operands b ws =
+    cond (is Name (token t ws) && is ClockDef (token t (rest ws)))
+    (closed true (clockAt t b (front t ws)) (expression t operands b (rest (rest ws))))
+    (closed false 0 (pair t operands b ws))
+
+-- ---- what the readers in code answer stands for
+
+abbrev pub operandRead : List ℕ → OperandRead → Parsed Placed
+operandRead t r = onlyIf (r .fits) (parsed (record { builder = r .builder; clock = r .clock }) (lineWords t (r .at)))
+
+abbrev pub kindRead : List ℕ → KindRead → Kinded
+kindRead t r = record { kind = r .kind; after = lineWords t (r .at) }
+
+abbrev pub formRead : List ℕ → FormRead → Parsed Formed
+formRead t r = onlyIf (r .fits) (parsed (record { builder = r .builder; constraint = r .constraint }) (lineWords t (r .at)))

@@ -1,0 +1,3 @@
+pub mod Grammar
+pub mod Names
+pub mod Tokens

@@ -1,0 +1,72 @@
+-- The words of a table line, told apart: document 01, "Table text". Assumes nothing.
+use mathlib.Core.Bool.{Bool, cond, _&&_}
+use mathlib.Core.List.{List, [], _∷_}
+use Prim.Native.Nat.{ℕ}
+use lib.Dec.{eqb}
+use Rattle.constraint.specs.declared.Definition.the-variants.{Union, Inter, Lub, Glb, Sampled, Upto}
+use Rattle.constraint.specs.declared.Kind.the-variants.{Relates, Defines}
+use Rattle.constraint.specs.declared.Relation.the-variants.{Coincides, Excludes, SubClock, Precedes}
+use Rattle.text.specs.Ascii.{ascii}
+use Rattle.text.specs.Bytes.{letter, digit, inClass, allBytes, sameBytes}
+use Rattle.text.specs.declared.Class.the-variants.{NameByte}
+use Rattle.grammar.specs.declared.Token.{Token}
+use Rattle.grammar.specs.declared.Token.the-variants.{End, Other, Name, Digits, ClockDef, Await, Strictly, Form}
+
+-- the place of a token among its kind, by which two are compared
+abbrev pub tag : Token → ℕ
+tag End = 0
+tag Other = 1
+tag Name = 2
+tag Digits = 3
+tag ClockDef = 4
+tag Await = 5
+tag Strictly = 6
+tag (Form k) = 7
+
+abbrev pub is : Token → Token → Bool
+is a b = eqb (tag a) (tag b)
+
+-- a word, and what it is
+pub record Spelled : Type 0 where
+  pub bytes : List ℕ
+  pub token : Token
+
+infix 68 _says_
+abbrev pub _says_ : List ℕ → Token → Spelled
+w says t = record { bytes = w; token = t }
+
+-- the words of the forms, each once
+abbrev pub definitionWords : List Spelled
+definitionWords =
+    ascii "clockUnion" says Form (Defines Union) ∷
+    ascii "clockInter" says Form (Defines Inter) ∷
+    ascii "lub" says Form (Defines Lub) ∷
+    ascii "glb" says Form (Defines Glb) ∷
+    ascii "sampled" says Form (Defines Sampled) ∷
+    ascii "upto" says Form (Defines Upto) ∷
+    ascii "await" says Await ∷
+    []
+
+abbrev pub formWords : List Spelled
+formWords =
+    ascii "=" says Form (Relates Coincides) ∷
+    ascii "#" says Form (Relates Excludes) ∷
+    ascii "isSubClockOf" says Form (Relates SubClock) ∷
+    ascii "precedes" says Form (Relates Precedes) ∷
+    ascii "strictly" says Strictly ∷
+    ascii "clockDef" says ClockDef ∷
+    definitionWords
+
+-- a name is a letter, then letters, digits or underscores
+unfoldable pub shapeOf : List ℕ → Token
+shapeOf [] = End
+shapeOf (b ∷ bs) =
+    cond (allBytes digit (b ∷ bs)) Digits (cond (letter b && allBytes (inClass NameByte) (b ∷ bs)) Name Other)
+
+-- the form words are not names
+unfoldable pub lookUp : List ℕ → List Spelled → Token
+lookUp w [] = shapeOf w
+lookUp w (s ∷ ss) = cond (sameBytes w (s .bytes)) (s .token) (lookUp w ss)
+
+abbrev pub tokenOf : List ℕ → Token
+tokenOf w = lookUp w formWords

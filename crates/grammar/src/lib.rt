@@ -1,0 +1,78 @@
+// A line of a table: its words told apart, the names of clocks with their numbers, the table so far, and the forms of a line as readers of
+// its words (document 01, "Table text").
+
+mod line;
+mod naming;
+mod words;
+
+use constraint::Constraint;
+use constraint::Kind;
+use limit::Place;
+pub use line::await_number;
+pub use line::is_name;
+pub use line::line_form;
+pub use naming::find_name;
+pub use naming::with_words;
+use text::Span;
+pub use words::token_at;
+
+// What a word is to the line reader: a word of a form, a clock's name, digits, any other word, or none at a line's end.
+pub enum Token {
+    End,
+    Other,
+    Name,
+    Digits,
+    ClockDef,
+    Await,
+    Strictly,
+    Form(Kind),
+}
+
+// The number of a clock, if the table names it.
+pub enum Found {
+    At(u8),
+    Nothing,
+}
+
+// Where the names of the table's clocks first stand, in the order of their numbers, and whether a 33rd was named.
+pub struct Names {
+    pub spans: [Span; 32],
+    pub count: usize,
+    pub over: bool,
+}
+
+// The records in table order, the slots after them being empty, and the names of their clocks.
+pub struct Table {
+    pub records: [Constraint; 64],
+    pub count: usize,
+    pub names: Names,
+}
+
+// The table so far, the clocks that it defines as a tick set, and the line that is read.
+pub struct Builder {
+    pub table: Table,
+    pub defined: u32,
+    pub line: Place,
+}
+
+// What an operand's reader answers: whether an operand stands there, where it ends, the table with it, and its clock.
+pub struct OperandRead {
+    pub fits: bool,
+    pub at: usize,
+    pub builder: Builder,
+    pub clock: u8,
+}
+
+// What the reader of a kind answers: the kind, empty where none stands there, and where its words end.
+pub struct KindRead {
+    pub kind: Kind,
+    pub at: usize,
+}
+
+// What the reader of a form answers: whether it fits, where it ends, the table with its operands, and its constraint.
+pub struct FormRead {
+    pub fits: bool,
+    pub at: usize,
+    pub builder: Builder,
+    pub constraint: Constraint,
+}

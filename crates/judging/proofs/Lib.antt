@@ -1,0 +1,2 @@
+pub mod MillionLaws
+pub mod StepLaws

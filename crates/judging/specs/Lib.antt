@@ -1,0 +1,3 @@
+pub mod Million
+pub mod Single
+pub mod Step

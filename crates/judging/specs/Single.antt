@@ -1,0 +1,68 @@
+-- The single step on any list of records, clock count, configuration and tick set: document 01, "Where each refusal is checked", its last
+-- three rows. Assumes nothing.
+use mathlib.Core.Bool.{cond}
+use mathlib.Core.List.{List}
+use Prim.Native.Nat.{ℕ, _^_}
+use lib.Dec.{ltb}
+use Rattle.limit.specs.Limit.{numberOf}
+use Rattle.limit.specs.declared.Limit.{Limit}
+use Rattle.limit.specs.declared.Limit.the-variants.{Records, Configuration as ConfigurationWord, TickSet, Gap}
+use Rattle.constraint.specs.Lists.{at, brokenRecord, brokenWord}
+use Rattle.constraint.specs.Ticks.{bits}
+use Rattle.constraint.specs.declared.Broken.{Broken}
+use Rattle.constraint.specs.declared.Broken.the-variants.{Nowhere, At}
+use Rattle.constraint.specs.declared.Configuration.{Configuration}
+use Rattle.constraint.specs.declared.Constraint.{Constraint}
+use Rattle.judging.specs.Step.{judged}
+use Rattle.judging.specs.declared.Judged.{Judged}
+use Rattle.judging.specs.declared.Outcome.{Outcome}
+use Rattle.judging.specs.declared.Outcome.the-variants.{Held, Failed, Full}
+use Rattle.judging.specs.declared.StepAnswer.{StepAnswer}
+use Rattle.judging.specs.declared.StepAnswer.the-variants.{Accepted, Violated, Refused}
+use Rattle.judging.specs.declared.Stepped.{Stepped}
+
+-- ---- the answer in document 01's words: `violated` with its record, `refused` with number and place
+
+pub data StepSaid : Type 0 where
+  accepted : StepSaid
+  violated : (record' : ℕ) → StepSaid
+  refused : (number place : ℕ) → StepSaid
+
+abbrev pub stepSaid : StepAnswer → StepSaid
+stepSaid Accepted = accepted
+stepSaid (Violated p) = violated (p .0)
+stepSaid (Refused r) = refused (numberOf (r .limit)) (r .place .0)
+
+pub record StepTold : Type 0 where
+  pub said : StepSaid
+  pub configuration : Configuration
+
+abbrev pub stepTold : Stepped → StepTold
+stepTold s = record { said = stepSaid (s .answer); configuration = s .configuration }
+
+-- ---- the checks in their order
+
+-- a refused step hands back the configuration that it was given
+abbrev pub refusesAt : Limit → Broken → Configuration → StepTold → StepTold
+refusesAt l Nowhere c t = t
+refusesAt l (At p) c t = record { said = refused (numberOf l) (p .0); configuration = c }
+
+-- 61: tick set with a bit at or above the clock count, place 0
+abbrev pub beyondClocks : (clocks ticks : ℕ) → Broken
+beyondClocks clocks f = cond (ltb f (2 ^ clocks)) Nowhere (at 0)
+
+abbrev pub outcomeSaid : Outcome → StepSaid
+outcomeSaid Held = accepted
+outcomeSaid (Failed p) = violated (p .0)
+outcomeSaid (Full p) = refused (numberOf Gap) (p .0)
+
+abbrev pub judgedTold : Judged → StepTold
+judgedTold j = record { said = outcomeSaid (j .outcome); configuration = j .configuration }
+
+-- 59, 60, 61, then judging, then 51
+unfoldable pub stepOf : (clocks : ℕ) → List Constraint → Configuration → (ticks : ℕ) → StepTold
+stepOf clocks rs c f =
+    refusesAt Records (brokenRecord clocks rs) c
+    (refusesAt ConfigurationWord (brokenWord rs (c .words)) c
+    (refusesAt TickSet (beyondClocks clocks f) c
+    (judgedTold (judged (bits f) rs c))))

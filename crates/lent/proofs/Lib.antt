@@ -1,0 +1,11 @@
+pub mod AnswerLaws
+pub mod Elem
+pub mod LentArray
+pub mod LentCalls
+pub mod LentLaws
+pub mod LentMonitor
+pub mod LentTypes
+pub mod Prefix
+pub mod SurveyLaws
+pub mod VisitLaws
+pub mod While

@@ -1,0 +1,84 @@
+-- The three demands: 2 from how the steps of a recording split into the accepted ones and what ends them; 1 from that split, and from the order
+-- of the checks of the calls on records; 3 as `constraint` has it. Assumes nothing.
+use mathlib.Core.Path.{_≡_, refl, sym, ap, _∙_}
+use mathlib.Core.List.{List, [], _∷_, _++_, append-nil}
+use Prim.Native.Nat.{ℕ}
+use lib.ListN.{length}
+use Rattle.constraint.proofs.Demand3 as place
+use Rattle.table.specs.Reader as table
+use Rattle.table.proofs.Passes.{every-table-passes}
+use Rattle.recording.specs.Body.{Ending, ended, refusedAt}
+use Rattle.recording.specs.declared.Step.{Step}
+use Rattle.run.specs.Demands.{Demand1, Demand2, Demand3}
+use Rattle.run.specs.Judgement.{Accepted, Ends, at-end, fails, gap}
+use Rattle.run.specs.Refusals.{RunRefuses, by-table, by-reading, by-gap}
+use Rattle.run.specs.Run.{Said, accepted, violated, refused, endingSaid, ran, runTable, withTable, runOf, zeros, tableOf, readingBy}
+use Rattle.run.proofs.JudgingLaws.{after, Split, split, judged-split}
+use Rattle.run.proofs.RefusalLaws.{step-refused, step-given-back, same-place-refused}
+
+-- ---- the run of a table that is refused, and of one that is read
+
+module _ (t r : List ℕ) where
+  run-refused : (n p : ℕ) → table.readTable t .said ≡ table.refused n p → runOf t r ≡ record { said = refused n p; steps = 0; constraints = 0; configuration = zeros }
+  unfolding withTable
+  run-refused n p e = rw e
+
+  pub run-read : table.readTable t .said ≡ table.read → runOf t r ≡ runTable t (tableOf t) r
+  unfolding withTable
+  run-read e = rw e
+
+  run-split : table.readTable t .said ≡ table.read → (x : Split (tableOf t .records) (readingBy t r .ending) (readingBy t r .steps))
+      → runOf t r ≡ record { said = x .said; steps = length (x .accepted); constraints = tableOf t .count; configuration = after (tableOf t .records) (x .accepted) }
+  run-split e x = run-read e ∙ ap (ran (tableOf t .count)) (judged-split (tableOf t) (every-table-passes t e) (readingBy t r .ending) (readingBy t r .steps) x)
+
+-- ---- demand 2
+
+pub demand-2 : Demand2
+demand-2 t r e =
+    let x = split (tableOf t .records) (readingBy t r .ending) (readingBy t r .steps) in
+    rw (run-split t r e x) (record { accepted = x .accepted; left = x .left; steps = x .place; held = x .held; ends = x .ends; count = refl; constraints = refl; words = refl })
+
+-- ---- demand 1
+
+when-refused : (t r : List ℕ) {n p : ℕ} → RunRefuses t r n p → runOf t r .said ≡ refused n p
+when-refused t r {n} {p} (by-table e) = rw (run-refused t r n p e)
+when-refused t r (by-reading e q h) = rw (run-split t r e (record { accepted = readingBy t r .steps; left = []; said = endingSaid (readingBy t r .ending); place = sym (append-nil _); held = h; ends = at-end })) (ap endingSaid q)
+when-refused t r (by-gap before later s c e q h hold f) = rw (run-split t r e (record { accepted = before; left = s ∷ later; said = _; place = q; held = h; ends = gap hold f }))
+
+-- of a verdict that is a refusal: the run is refused so
+abbrev Refusing : (t r : List ℕ) → Said → Type 0
+Refusing t r accepted = Unit {0}
+Refusing t r (violated l p) = Unit {0}
+Refusing t r (refused n p) = RunRefuses t r n p
+
+module _ (t r : List ℕ) where
+  module _ (e : table.readTable t .said ≡ table.read) where
+    ending-refuses : Accepted (tableOf t .records) (readingBy t r .steps) → (x : Ending) → readingBy t r .ending ≡ x → Refusing t r (endingSaid x)
+    ending-refuses h ended q = tt
+    ending-refuses h (refusedAt l p) q = by-reading e q h
+
+    end-refuses : {ss left : List Step} {said : Said} → readingBy t r .steps ≡ ss ++ left → Accepted (tableOf t .records) ss → Ends (tableOf t .records) (readingBy t r .ending) ss left said → Refusing t r said
+    end-refuses place h at-end = ending-refuses (rw (place, append-nil) h) (readingBy t r .ending) refl
+    end-refuses place h (fails f) = tt
+    end-refuses place h (gap hold f) = by-gap _ _ _ _ e place h hold f
+
+  run-refuses : Refusing t r (runOf t r .said)
+  run-refuses = go (table.readTable t .said) refl
+    where
+      go : (x : table.Said) → table.readTable t .said ≡ x → Refusing t r (runOf t r .said)
+      go table.read e = let j = demand-2 t r e in end-refuses e (j .steps) (j .held) (j .ends)
+      go (table.refused n p) e = rw (run-refused t r n p e) (by-table e)
+
+pub demand-1 : Demand1
+demand-1 = record {
+  run-refused = λ t r n p. (λ e. rw e at (run-refuses t r), when-refused t r);
+  table-refused = run-refused;
+  step-refused = step-refused;
+  step-given-back = step-given-back;
+  same-place-refused = same-place-refused;
+}
+
+-- ---- demand 3
+
+pub demand-3 : Demand3
+demand-3 = place.demand-3

@@ -1,0 +1,6 @@
+pub mod Agreement
+pub mod Demands
+pub mod Judgement
+pub mod Refusals
+pub mod Run
+pub mod WordByWord

@@ -1,0 +1,113 @@
+-- The whole run: the table is read, then the recording, and the steps are judged one after the other, up to the first that is not accepted
+-- (document 01, "What the monitor does", "Recording" and "Where each refusal is checked"). Assumes nothing.
+use mathlib.Core.List.{List, [], _∷_}
+use Prim.Native.Nat.{ℕ, suc, _-_}
+use lib.IntN.{pos}
+use lib.ListN.{getD, replicate}
+use Rattle.limit.specs.Limit.{numberOf}
+use Rattle.limit.specs.declared.Limit.the-variants.{Gap}
+use Rattle.limit.specs.declared.Place.{Place}
+use Rattle.constraint.specs.Lists.{empty, slots, startWords}
+use Rattle.constraint.specs.Meaning.{word}
+use Rattle.constraint.specs.Ticks.{bits}
+use Rattle.constraint.specs.declared.Configuration.{Configuration}
+use Rattle.constraint.specs.declared.Constraint.{Constraint}
+use Rattle.table.specs.Reader as table
+use Rattle.grammar.specs.declared.Table.{Table}
+use Rattle.recording.specs.Body.{Ending, ended, refusedAt, Reading, reading}
+use Rattle.recording.specs.Variables.{clockNamed}
+use Rattle.recording.specs.declared.Step.{Step}
+use Rattle.judging.specs.Step.{judged}
+use Rattle.judging.specs.declared.Judged.{Judged}
+use Rattle.judging.specs.declared.Outcome.{Outcome}
+use Rattle.judging.specs.declared.Outcome.the-variants.{Held, Failed, Full}
+use Rattle.run.specs.declared.Report.{Report}
+use Rattle.run.specs.declared.Verdict.{Verdict}
+use Rattle.run.specs.declared.Verdict.the-variants.{Accepted, Violated, Refused}
+
+-- ---- the verdict in document 01's words: `violated` with table line and time, `refused` with number and place
+
+pub data Said : Type 0 where
+  accepted : Said
+  violated : (line time : ℕ) → Said
+  refused : (number place : ℕ) → Said
+
+abbrev pub said : Verdict → Said
+said Accepted = accepted
+said (Violated line time) = violated (line .0) (time .0)
+said (Refused r) = refused (numberOf (r .limit)) (r .place .0)
+
+-- what a run gives: verdict, number of accepted steps, number of constraints, configuration
+pub record Told : Type 0 where
+  pub said : Said
+  pub steps : ℕ
+  pub constraints : ℕ
+  pub configuration : Configuration
+
+abbrev pub told : Report → Told
+told r = record { said = said (r .verdict); steps = r .steps .0; constraints = r .constraints; configuration = r .configuration }
+
+-- ---- judging the steps of a recording
+
+-- the table line of the record at a place, from 1
+abbrev pub lineOf : List Constraint → Place → ℕ
+lineOf rs p = getD rs (p .0 - 1) empty .line .0
+
+-- once every step was accepted, the verdict is how reading ended
+abbrev pub endingSaid : Ending → Said
+endingSaid ended = accepted
+endingSaid (refusedAt l p) = refused (numberOf l) p
+
+-- how judging ends: the verdict, the number of accepted steps, and the configuration after them
+pub record Judging : Type 0 where
+  pub said : Said
+  pub steps : ℕ
+  pub configuration : Configuration
+
+-- n steps were accepted; in a whole run 51 has the step's mark offset as its place
+unfoldable pub afterStep : List Constraint → (n : ℕ) → Step → Outcome → (before after : Configuration) → (Configuration → Judging) → Judging
+afterStep rs n s Held b a onward = onward a
+afterStep rs n s (Failed p) b a onward = record { said = violated (lineOf rs p) (s .time .0); steps = n; configuration = b }
+afterStep rs n s (Full p) b a onward = record { said = refused (numberOf Gap) (s .mark .0); steps = n; configuration = b }
+
+unfoldable pub judgeAll : List Constraint → (n : ℕ) → Configuration → List Step → Ending → Judging
+judgeAll rs n c [] e = record { said = endingSaid e; steps = n; configuration = c }
+judgeAll rs n c (s ∷ ss) e =
+    let j : Judged = judged (bits (s .ticks)) rs c in
+    afterStep rs n s (j .outcome) c (j .configuration) (λ d. judgeAll rs (suc n) d ss e)
+
+-- ---- the run
+
+abbrev pub recordsOf : Table → List Constraint
+recordsOf t = slots (t .count) (t .records)
+
+abbrev pub startOf : Table → Configuration
+startOf t = record { words = startWords (t .records) }
+
+abbrev pub zeros : Configuration
+zeros = record { words = replicate 64 (word (pos 0)) }
+
+abbrev pub ran : (constraints : ℕ) → Judging → Told
+ran n j = record { said = j .said; steps = j .steps; constraints = n; configuration = j .configuration }
+
+-- the recording as read with the names of a table
+abbrev pub readingOf : (text : List ℕ) → Table → List ℕ → Reading
+readingOf t b r = reading (clockNamed t (b .names)) (b .names .count) r
+
+abbrev pub runTable : (text : List ℕ) → Table → List ℕ → Told
+runTable t b r = let g : Reading = readingOf t b r in ran (b .count) (judgeAll (recordsOf b) 0 (startOf b) (g .steps) (g .ending))
+
+-- a refused table: no records, 64 zero words, 0 steps
+unfoldable pub withTable : (text : List ℕ) → table.Said → Table → List ℕ → Told
+withTable t table.read b r = runTable t b r
+withTable t (table.refused n p) b r = record { said = refused n p; steps = 0; constraints = 0; configuration = zeros }
+
+abbrev pub runOf : (table recording : List ℕ) → Told
+runOf t r = withTable t (table.readTable t .said) (table.readTable t .table) r
+
+-- the table that a text is read as, and the recording as read with its names
+abbrev pub tableOf : List ℕ → Table
+tableOf t = table.readTable t .table
+
+abbrev pub readingBy : (table recording : List ℕ) → Reading
+readingBy t r = readingOf t (tableOf t) r

@@ -1,0 +1,166 @@
+// The run word by word: the open step is closed, marks and changes are read.
+use super::Next;
+use super::Progress;
+use super::Steps;
+use super::Verdict;
+use constraint::Constraint;
+use judging::Judged;
+use judging::Outcome;
+use judging::judge;
+use limit::Limit;
+use limit::Place;
+use limit::Refusal;
+use recording::Turn;
+ghost use mathlib.Core.Path.{_≡_};
+ghost use Prim.Native.Nat.{_+_, _≤_, _<_, _^_};
+ghost use lib.ListN.{length, getD};
+ghost use Rattle.constraint.specs.Lists.{empty, slots, brokenWord};
+ghost use Rattle.constraint.specs.declared.Broken.{Broken};
+ghost use Rattle.recording.specs.Body.{turnAs};
+ghost use Rattle.run.specs.WordByWord as f;
+ghost use Rattle.run.specs.Run.{lineOf};
+
+// Whether the run goes on after a verdict.
+pub fn goes_on(verdict: Verdict) -> bool
+    ensures { λ r. ⌜ r ≡ f.goesOn verdict ⌝ }
+{
+    match verdict {
+        Verdict::Accepted => true,
+        Verdict::Violated(_, _) => false,
+        Verdict::Refused(_) => false,
+    }
+}
+
+fn on(progress: Progress) -> Next
+    ensures { λ r. ⌜ r ≡ f.on progress ⌝ }
+{
+    Next {
+        verdict: Verdict::Accepted,
+        progress,
+    }
+}
+
+fn over(verdict: Verdict, progress: Progress) -> Next
+    ensures { λ r. ⌜ r ≡ f.over verdict progress ⌝ }
+{
+    Next { verdict, progress }
+}
+
+// The table line of the record at an index.
+fn line_at(records: [Constraint; 64], count: usize, i: usize) -> Place
+    requires { ⌜ count ≤ 64 ⌝ }
+    ensures { λ r. ⌜ r ≡ getD (slots count records) i empty .line ⌝ }
+{
+    if count <= i {
+        return Place(0);
+    }
+    let constraint = records[i];
+    constraint.line
+}
+
+// The table line of the record at a place, from 1.
+fn line_of(records: [Constraint; 64], count: usize, place: Place) -> Place
+    requires { ⌜ count ≤ 64 ⌝ }
+    ensures { λ r. ⌜ r .0 ≡ lineOf (slots count records) place ⌝ }
+{
+    if place.0 == 0 {
+        return line_at(records, count, 0);
+    }
+    line_at(records, count, place.0 - 1)
+}
+
+// The open step as judged.
+fn settle(records: [Constraint; 64], count: usize, progress: Progress, judged: Judged) -> Next
+    requires { ⌜ (count ≤ 64) × (progress .steps .0 + 1 < 2 ^ 64) ⌝ }
+    ensures { λ r. ⌜ r ≡ f.settles (slots count records) progress judged ⌝ }
+{
+    let outcome = judged.outcome;
+    let step = progress.step;
+    let steps = progress.steps;
+    match outcome {
+        Outcome::Held => {
+            let configuration = judged.configuration;
+            on(Progress {
+                configuration,
+                steps: Steps(steps.0 + 1),
+                step,
+            })
+        }
+        Outcome::Failed(place) => {
+            let time = step.time;
+            over(
+                Verdict::Violated(line_of(records, count, place), time),
+                progress,
+            )
+        }
+        Outcome::Full(_) => {
+            let place = step.mark;
+            over(
+                Verdict::Refused(Refusal {
+                    limit: Limit::Gap,
+                    place,
+                }),
+                progress,
+            )
+        }
+    }
+}
+
+// The open step judged, where there is one.
+pub fn close(records: [Constraint; 64], count: usize, progress: Progress) -> Next
+    requires { ⌜ (count ≤ 64) × (brokenWord (slots count records) (progress .configuration .words) ≡ Broken.Nowhere) × (progress .steps .0 + 1 < 2 ^ 64) ⌝ }
+    ensures { λ r. ⌜ r ≡ f.closed (slots count records) progress ⌝ }
+{
+    let step = progress.step;
+    if !step.begun {
+        return on(progress);
+    }
+    let configuration = progress.configuration;
+    settle(
+        records,
+        count,
+        progress,
+        judge(records, count, configuration, step.ticks),
+    )
+}
+
+// The open step after a word.
+pub fn turned(progress: Progress, turn: Turn) -> Next
+    ensures { λ r. ⌜ r ≡ f.turned progress (turnAs turn) ⌝ }
+{
+    let outcome = turn.outcome;
+    match outcome {
+        limit::Check::Passed => {
+            let step = turn.step;
+            let configuration = progress.configuration;
+            let steps = progress.steps;
+            on(Progress {
+                configuration,
+                steps,
+                step,
+            })
+        }
+        limit::Check::Refused(refusal) => over(Verdict::Refused(refusal), progress),
+    }
+}
+
+// A word that opens with `#`.
+pub fn mark_step(
+    records: [Constraint; 64],
+    count: usize,
+    progress: Progress,
+    at: usize,
+    word: &[u8],
+) -> Next
+    requires { ⌜ (count ≤ 64) × (brokenWord (slots count records) (progress .configuration .words) ≡ Broken.Nowhere) × (progress .steps .0 + 1 < 2 ^ 64) × (1 ≤ length (now word)) ⌝ }
+    ensures { λ r. ⌜ r ≡ f.markStep (slots count records) progress at (now (word .entry)) ⌝ }
+{
+    let next = close(records, count, progress);
+    let verdict = next.verdict;
+    if !goes_on(verdict) {
+        return next;
+    }
+    let after = next.progress;
+    let step = after.step;
+    turned(after, recording::mark(step, at, &word[1..]))
+}
