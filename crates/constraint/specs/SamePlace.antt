@@ -9,7 +9,7 @@ use lib.IntN.{ℤ, pos, negsuc}
 use lib.ListN.{length, getD}
 use Rattle.limit.specs.Limit.{numberOf}
 use Rattle.limit.specs.declared.Limit.{Limit}
-use Rattle.limit.specs.declared.Limit.the-variants.{Records, Configuration}
+use Rattle.limit.specs.declared.Limit.the-variants.{Records, ConfigurationWord}
 use Rattle.constraint.specs.Lists.{empty, brokenRecord, brokenWord}
 use Rattle.constraint.specs.Meaning.{word, holds, nextWord}
 use Rattle.constraint.specs.Ticks.{Ticks, Below}
@@ -56,8 +56,8 @@ sameWords (w ∷ ws) (v ∷ vs) = sameWord w v && sameWords ws vs
 abbrev pub samePlaceOf : (clocks : ℕ) → List Constraint → (first second : List Word) → Answer
 samePlaceOf clocks rs ws vs =
     refuseAt Records (brokenRecord clocks rs)
-    (refuseAt Configuration (brokenWord rs ws)
-    (refuseAt Configuration (brokenWord rs vs)
+    (refuseAt ConfigurationWord (brokenWord rs ws)
+    (refuseAt ConfigurationWord (brokenWord rs vs)
     (cond (sameWords ws vs) same different)))
 
 -- ---- what the answer means

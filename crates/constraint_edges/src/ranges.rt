@@ -238,7 +238,7 @@ fn recording_numbers() {
     limit_number(Limit::TickTwice);
     say(b"\nlimits of the calls on records:");
     limit_number(Limit::Records);
-    limit_number(Limit::Configuration);
+    limit_number(Limit::ConfigurationWord);
     limit_number(Limit::TickSet);
     limit_number(Limit::Gap);
     say(b"\n");

@@ -24,7 +24,7 @@ use Rattle.judging.specs.Million.{inMillion, firstPast}
 use Rattle.judging.specs.Step.{firstFailing, moved, handedBack, judged}
 use Rattle.judging.specs.declared.Judged.{Judged}
 use Rattle.judging.specs.declared.Outcome.{Outcome}
-use Rattle.judging.specs.declared.Outcome.the-variants.{Held, Failed, Full}
+use Rattle.judging.specs.declared.Outcome.the-variants.{Held, Failed, PastMillion}
 
 -- ---- the first record that fails a test with its word
 
@@ -119,13 +119,13 @@ module _ (F : Ticks) (rs : List Constraint) (c : Configuration) where
   judged-failed p e = stops Failed _ c _ p e
 
   module _ (after : Configuration) (m : after .words ≡ moved F rs (c .words)) (e : firstFailing F 1 rs (c .words) ≡ Nowhere) where
-    pub judged-full : (p : Place) → brokenWord rs (after .words) ≡ At p → judged F rs c ≡ record { outcome = Full p; configuration = c }
+    pub judged-past : (p : Place) → brokenWord rs (after .words) ≡ At p → judged F rs c ≡ record { outcome = PastMillion p; configuration = c }
     unfolding judged
-    judged-full p q = passes Failed _ c _ e ∙ stops Full _ c _ p (rw m at q)
+    judged-past p q = passes Failed _ c _ e ∙ stops PastMillion _ c _ p (rw m at q)
 
     pub judged-held : brokenWord rs (after .words) ≡ Nowhere → judged F rs c ≡ record { outcome = Held; configuration = after }
     unfolding judged
-    judged-held q = passes Failed _ c _ e ∙ passes Full _ c _ (rw m at q) ∙ rw (← m)
+    judged-held q = passes Failed _ c _ e ∙ passes PastMillion _ c _ (rw m at q) ∙ rw (← m)
 
   -- a step that is not taken leaves the words, and one that is taken has them moved, in range
   judged-words : (P : List Word → Type 0) → P (c .words) → (brokenWord rs (moved F rs (c .words)) ≡ Nowhere → P (moved F rs (c .words))) → P (judged F rs c .configuration .words)
@@ -133,7 +133,7 @@ module _ (F : Ticks) (rs : List Constraint) (c : Configuration) where
   judged-words P stays moves = go (firstFailing F 1 rs (c .words)) (brokenWord rs (moved F rs (c .words))) refl
     where
       go : (f b : Broken) → brokenWord rs (moved F rs (c .words)) ≡ b
-          → P (handedBack Failed f c (handedBack Full b c (record { outcome = Held; configuration = record { words = moved F rs (c .words) } })) .configuration .words)
+          → P (handedBack Failed f c (handedBack PastMillion b c (record { outcome = Held; configuration = record { words = moved F rs (c .words) } })) .configuration .words)
       go (At p) b e = stays
       go Nowhere (At p) e = stays
       go Nowhere Nowhere e = moves e

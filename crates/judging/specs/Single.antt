@@ -6,7 +6,7 @@ use Prim.Native.Nat.{ℕ, _^_}
 use lib.Dec.{ltb}
 use Rattle.limit.specs.Limit.{numberOf}
 use Rattle.limit.specs.declared.Limit.{Limit}
-use Rattle.limit.specs.declared.Limit.the-variants.{Records, Configuration as ConfigurationWord, TickSet, Gap}
+use Rattle.limit.specs.declared.Limit.the-variants.{Records, ConfigurationWord, TickSet, Million}
 use Rattle.constraint.specs.Lists.{at, brokenRecord, brokenWord}
 use Rattle.constraint.specs.Ticks.{bits}
 use Rattle.constraint.specs.declared.Broken.{Broken}
@@ -16,7 +16,7 @@ use Rattle.constraint.specs.declared.Constraint.{Constraint}
 use Rattle.judging.specs.Step.{judged}
 use Rattle.judging.specs.declared.Judged.{Judged}
 use Rattle.judging.specs.declared.Outcome.{Outcome}
-use Rattle.judging.specs.declared.Outcome.the-variants.{Held, Failed, Full}
+use Rattle.judging.specs.declared.Outcome.the-variants.{Held, Failed, PastMillion}
 use Rattle.judging.specs.declared.StepAnswer.{StepAnswer}
 use Rattle.judging.specs.declared.StepAnswer.the-variants.{Accepted, Violated, Refused}
 use Rattle.judging.specs.declared.Stepped.{Stepped}
@@ -54,7 +54,7 @@ beyondClocks clocks f = cond (ltb f (2 ^ clocks)) Nowhere (at 0)
 abbrev pub outcomeSaid : Outcome → StepSaid
 outcomeSaid Held = accepted
 outcomeSaid (Failed p) = violated (p .0)
-outcomeSaid (Full p) = refused (numberOf Gap) (p .0)
+outcomeSaid (PastMillion p) = refused (numberOf Million) (p .0)
 
 abbrev pub judgedTold : Judged → StepTold
 judgedTold j = record { said = outcomeSaid (j .outcome); configuration = j .configuration }

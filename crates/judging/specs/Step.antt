@@ -14,7 +14,7 @@ use Rattle.constraint.specs.declared.Constraint.{Constraint}
 use Rattle.constraint.specs.declared.Word.{Word}
 use Rattle.judging.specs.declared.Judged.{Judged}
 use Rattle.judging.specs.declared.Outcome.{Outcome}
-use Rattle.judging.specs.declared.Outcome.the-variants.{Held, Failed, Full}
+use Rattle.judging.specs.declared.Outcome.the-variants.{Held, Failed, PastMillion}
 
 -- the first record that does not hold, the first of these having the place i
 abbrev pub firstFailing : Ticks → (i : ℕ) → List Constraint → List Word → Broken
@@ -36,5 +36,5 @@ handedBack stop (At p) c j = record { outcome = stop p; configuration = c }
 unfoldable pub judged : Ticks → List Constraint → Configuration → Judged
 judged F rs c =
     handedBack Failed (firstFailing F 1 rs (c .words)) c
-    (handedBack Full (brokenWord rs (moved F rs (c .words))) c
+    (handedBack PastMillion (brokenWord rs (moved F rs (c .words))) c
     (record { outcome = Held; configuration = record { words = moved F rs (c .words) } }))

@@ -12,7 +12,7 @@ pub use step::judge;
 pub enum Outcome {
     Held,
     Failed(Place),
-    Full(Place),
+    PastMillion(Place),
 }
 
 // A step as judged: the configuration after it where every constraint holds, else the one before it.

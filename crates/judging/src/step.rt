@@ -128,7 +128,7 @@ pub fn judge(
     }
     let after = moved(records, count, configuration, ticks);
     if let Broken::At(place) = first_past(records, count, after) {
-        return handed_back(Outcome::Full(place), configuration);
+        return handed_back(Outcome::PastMillion(place), configuration);
     }
     handed_back(Outcome::Held, after)
 }

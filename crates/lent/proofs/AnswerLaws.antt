@@ -2,7 +2,7 @@
 use mathlib.Core.Path.{_≡_}
 use mathlib.Core.Bool.{cond}
 use Rattle.limit.specs.declared.Limit.{Limit}
-use Rattle.limit.specs.declared.Limit.the-variants.{Records, Configuration as ConfigurationWord, TickSet, Gap}
+use Rattle.limit.specs.declared.Limit.the-variants.{Records, ConfigurationWord, TickSet, Million}
 use Rattle.limit.specs.declared.Place.{Place}
 use Rattle.constraint.specs.SamePlace as same
 use Rattle.constraint.specs.declared.Broken.the-variants.{Nowhere, At}
@@ -40,11 +40,11 @@ module _ (s : Survey) where
         violated p e = rw (p59, p60, p61, e)
 
         module _ (held : s .failing ≡ Nowhere) where
-          pub refused-51 : (p : Place) → s .full ≡ At p → concluded s ≡ stepTold (refused Gap p (s .before))
+          pub refused-51 : (p : Place) → s .past ≡ At p → concluded s ≡ stepTold (refused Million p (s .before))
           unfolding concluded
           refused-51 p e = rw (p59, p60, p61, held, e)
 
-          pub accepted : s .full ≡ Nowhere → concluded s ≡ stepTold (record { answer = Accepted; configuration = s .after })
+          pub accepted : s .past ≡ Nowhere → concluded s ≡ stepTold (record { answer = Accepted; configuration = s .after })
           unfolding concluded
           accepted e = rw (p59, p60, p61, held, e)
 

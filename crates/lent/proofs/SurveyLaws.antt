@@ -11,7 +11,7 @@ use lib.Dec.{leb}
 use lib.ListN.{length, drop, set, length-append}
 use lib.Seq.{drop-cons, set-at, append-snoc}
 use Rattle.limit.specs.declared.Limit.{Limit}
-use Rattle.limit.specs.declared.Limit.the-variants.{Records, Configuration as ConfigurationWord, TickSet}
+use Rattle.limit.specs.declared.Limit.the-variants.{Records, ConfigurationWord, TickSet}
 use Rattle.constraint.specs.Lists.{at, recordFits, firstUnfit, brokenRecord, firstOut, brokenWord}
 use Rattle.constraint.specs.Meaning.{wellFormed, inRange, nextWord, definedOf}
 use Rattle.constraint.specs.SamePlace.{Answer, refuseAt, samePlaceOf}
@@ -133,14 +133,14 @@ failing-found (r ∷ rs) s i h e =
     failing-found rs (visited s r) (suc i) (room-next s i r rs h) (fine s i r rs h e .1)
     ∙ rw (inside s i r rs h, fine s i r rs h e .0, word-next s i r rs h, h .here) (lowest-first (s .failing) _ (suc i) _)
 
-full-found :
+past-found :
     (rs : List Constraint) (s : Survey) (i : ℕ) → Room s i rs → Fine s i rs
-    → surveyed s rs .full ≡ firstOf (s .full) (firstOut (suc i) rs (moved (bits (s .ticks)) rs (drop i (s .before .words))))
+    → surveyed s rs .past ≡ firstOf (s .past) (firstOut (suc i) rs (moved (bits (s .ticks)) rs (drop i (s .before .words))))
 unfolding surveyed visited
-full-found [] s i h e = rw e (nowhere-else (s .full))
-full-found (r ∷ rs) s i h e =
-    full-found rs (visited s r) (suc i) (room-next s i r rs h) (fine s i r rs h e .1)
-    ∙ rw (inside s i r rs h, fine s i r rs h e .0, word-next s i r rs h, h .here) (lowest-first (s .full) _ (suc i) _)
+past-found [] s i h e = rw e (nowhere-else (s .past))
+past-found (r ∷ rs) s i h e =
+    past-found rs (visited s r) (suc i) (room-next s i r rs h) (fine s i r rs h e .1)
+    ∙ rw (inside s i r rs h, fine s i r rs h e .0, word-next s i r rs h, h .here) (lowest-first (s .past) _ (suc i) _)
 
 -- of the words after the step, those of the records seen are done, and the rest are still as before it
 record Done (s : Survey) (i : ℕ) (done : List Word) : Type 0 where
@@ -186,7 +186,7 @@ module _ (clocks : ℕ) (rs : List Constraint) (c : Configuration) (f : ℕ) (h 
       let s = begins clocks c f in
       let moves = after-found rs s 0 [] room q (record { many = refl; words = refl }) in
       let after : surveyed s rs .after ≡ record { words = moved (bits f) rs (c .words) } = ap (λ (ws : List Word). record { words = ws }) moves in
-      rw (before-kept rs s, failing-found rs s 0 room q, full-found rs s 0 room q, after)
+      rw (before-kept rs s, failing-found rs s 0 room q, past-found rs s 0 room q, after)
 
 -- a limit is broken at the same place, or else what follows is the same
 refuses : (l : Limit) {a b : Broken} {c d : Configuration} {t u : StepTold} → a ≡ b → c ≡ d → (b ≡ Nowhere → t ≡ u) → refusesAt l a c t ≡ refusesAt l b d u

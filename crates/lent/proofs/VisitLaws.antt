@@ -27,26 +27,26 @@ use Rattle.lent.specs.declared.Survey.{Survey}
 -- ---- what a record adds, by the tests on it
 
 -- a survey with other fields, but for those that no record changes
-abbrev told : Survey → (after : Configuration) (place earlier : ℕ) (unfit out failing full : Broken) → Survey
-told s a p e u o x y = record { clocks = s .clocks; ticks = s .ticks; before = s .before; after = a; place = p; earlier = e; unfit = u; out = o; failing = x; full = y }
+abbrev told : Survey → (after : Configuration) (place earlier : ℕ) (unfit out failing past : Broken) → Survey
+told s a p e u o x y = record { clocks = s .clocks; ticks = s .ticks; before = s .before; after = a; place = p; earlier = e; unfit = u; out = o; failing = x; past = y }
 
 module _
     (s : Survey) (r : Constraint) {earlier : ℕ} {unfit : Broken}
     (e : earlier ≡ withTicks (s .earlier) (definedOf r)) (u : unfit ≡ lowest (s .unfit) (recordFits (s .clocks) (bits (s .earlier)) (s .place) r) (s .place)) where
-  pub past-adds : 64 < s .place → told s (s .after) (s .place) earlier unfit (s .out) (s .failing) (s .full) ≡ visited s r
+  pub past-adds : 64 < s .place → told s (s .after) (s .place) earlier unfit (s .out) (s .failing) (s .past) ≡ visited s r
   unfolding visited
   past-adds h = rw (e, u, lt-leb (s .place) 64 h)
 
   module _ {out : Broken} {x : Bool} (h : s .place ≤ 64) (i : x ≡ inRange r (wordHere s)) (o : out ≡ lowest (s .out) x (s .place)) where
-    pub out-adds : x ≡ false → told s (s .after) (s .place + 1) earlier unfit out (s .failing) (s .full) ≡ visited s r
+    pub out-adds : x ≡ false → told s (s .after) (s .place + 1) earlier unfit out (s .failing) (s .past) ≡ visited s r
     unfolding visited
     out-adds n = rw (e, u, o, i, le-leb (s .place) 64 h, sym i ∙ n)
 
     pub inside-adds :
-        {at : ℕ} {v : Word} {failing full : Broken}
+        {at : ℕ} {v : Word} {failing past : Broken}
         → x ≡ true → at ≡ s .place - 1 → v ≡ nextWord r (wordHere s) (bits (s .ticks))
-        → failing ≡ lowest (s .failing) (holds r (wordHere s) (bits (s .ticks))) (s .place) → full ≡ lowest (s .full) (inRange r v) (s .place)
-        → told s (record { words = set (s .after .words) at v }) (s .place + 1) earlier unfit out failing full ≡ visited s r
+        → failing ≡ lowest (s .failing) (holds r (wordHere s) (bits (s .ticks))) (s .place) → past ≡ lowest (s .past) (inRange r v) (s .place)
+        → told s (record { words = set (s .after .words) at v }) (s .place + 1) earlier unfit out failing past ≡ visited s r
     unfolding visited
     inside-adds y a q f g = rw (e, u, o, i, f, g, q, a, le-leb (s .place) 64 h, sym i ∙ y)
 

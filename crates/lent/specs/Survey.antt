@@ -6,7 +6,7 @@ use Prim.Native.Nat.{ℕ, _+_, _-_}
 use lib.Dec.{leb}
 use lib.IntN.{pos}
 use lib.ListN.{getD, set, drop}
-use Rattle.limit.specs.declared.Limit.the-variants.{Records, Configuration as ConfigurationWord, TickSet}
+use Rattle.limit.specs.declared.Limit.the-variants.{Records, ConfigurationWord, TickSet}
 use Rattle.constraint.specs.Lists.{at, recordFits, firstOut}
 use Rattle.constraint.specs.Meaning.{word, holds, nextWord, inRange, definedOf}
 use Rattle.constraint.specs.SamePlace.{Answer, same, different, refuseAt, sameWords}
@@ -19,12 +19,12 @@ use Rattle.constraint.specs.declared.Word.{Word}
 use Rattle.judging.specs.Single.{StepTold, refusesAt, beyondClocks, judgedTold}
 use Rattle.judging.specs.Step.{handedBack}
 use Rattle.judging.specs.declared.Judged.{Judged}
-use Rattle.judging.specs.declared.Outcome.the-variants.{Held, Failed, Full}
+use Rattle.judging.specs.declared.Outcome.the-variants.{Held, Failed, PastMillion}
 use Rattle.lent.specs.declared.Survey.{Survey}
 
 -- before the first record, which will have the place 1
 abbrev pub begins : (clocks : ℕ) → Configuration → (ticks : ℕ) → Survey
-begins clocks c f = record { clocks = clocks; ticks = f; before = c; after = c; place = 1; earlier = 0; unfit = Nowhere; out = Nowhere; failing = Nowhere; full = Nowhere }
+begins clocks c f = record { clocks = clocks; ticks = f; before = c; after = c; place = 1; earlier = 0; unfit = Nowhere; out = Nowhere; failing = Nowhere; past = Nowhere }
 
 -- the lowest place at which a test fails
 abbrev pub lowest : Broken → (passes : Bool) → (place : ℕ) → Broken
@@ -53,7 +53,7 @@ visited s r = record {
   unfit = lowest (s .unfit) (recordFits (s .clocks) (bits (s .earlier)) (s .place) r) (s .place);
   out = cond (leb (s .place) 64) (lowest (s .out) (inRange r (wordHere s)) (s .place)) (s .out);
   failing = cond (asks s r) (lowest (s .failing) (holds r (wordHere s) (bits (s .ticks))) (s .place)) (s .failing);
-  full = cond (asks s r) (lowest (s .full) (inRange r (nextWord r (wordHere s) (bits (s .ticks)))) (s .place)) (s .full);
+  past = cond (asks s r) (lowest (s .past) (inRange r (nextWord r (wordHere s) (bits (s .ticks)))) (s .place)) (s .past);
 }
 
 -- record by record
@@ -77,7 +77,7 @@ outAt s = firstOf (s .out) (firstOut (s .place - 1 + 1) [] (drop (s .place - 1) 
 
 -- judging, then 51
 abbrev pub judgedAt : Survey → Judged
-judgedAt s = handedBack Failed (s .failing) (s .before) (handedBack Full (s .full) (s .before) (record { outcome = Held; configuration = s .after }))
+judgedAt s = handedBack Failed (s .failing) (s .before) (handedBack PastMillion (s .past) (s .before) (record { outcome = Held; configuration = s .after }))
 
 unfoldable pub concluded : Survey → StepTold
 concluded s =

@@ -25,7 +25,7 @@ pub struct Survey {
     pub unfit: Broken,
     pub out: Broken,
     pub failing: Broken,
-    pub full: Broken,
+    pub past: Broken,
 }
 
 // A monitor: where it stands.

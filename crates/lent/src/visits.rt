@@ -32,7 +32,7 @@ pub fn begin(clocks: u8, configuration: Configuration, ticks: u32) -> Survey
         unfit: Broken::Nowhere,
         out: Broken::Nowhere,
         failing: Broken::Nowhere,
-        full: Broken::Nowhere,
+        past: Broken::Nowhere,
     }
 }
 
@@ -68,7 +68,7 @@ pub fn visit(survey: Survey, constraint: Constraint) -> Survey
     let unfit = survey.unfit;
     let out = survey.out;
     let failing = survey.failing;
-    let full = survey.full;
+    let past = survey.past;
     let fits = constraint::record_fits(clocks, survey.earlier, place, constraint);
     let unfit = lowest(unfit, fits, place);
     let earlier = constraint::with_defined(survey.earlier, constraint);
@@ -83,7 +83,7 @@ pub fn visit(survey: Survey, constraint: Constraint) -> Survey
             unfit,
             out,
             failing,
-            full,
+            past,
         };
     }
     let i = index(place);
@@ -101,12 +101,12 @@ pub fn visit(survey: Survey, constraint: Constraint) -> Survey
             unfit,
             out,
             failing,
-            full,
+            past,
         };
     }
     let failing = lowest(failing, constraint::holds(constraint, w, ticks), place);
     let v = constraint::next_word(constraint, w, ticks);
-    let full = lowest(full, constraint::in_range(constraint, v), place);
+    let past = lowest(past, constraint::in_range(constraint, v), place);
     let mut after = after;
     after.words[i] = v;
     Survey {
@@ -119,7 +119,7 @@ pub fn visit(survey: Survey, constraint: Constraint) -> Survey
         unfit,
         out,
         failing,
-        full,
+        past,
     }
 }
 
@@ -191,7 +191,7 @@ pub fn conclude(survey: Survey) -> Stepped
         return refused(Limit::Records, place, before);
     }
     if let Broken::At(place) = out_at(survey) {
-        return refused(Limit::Configuration, place, before);
+        return refused(Limit::ConfigurationWord, place, before);
     }
     if let Broken::At(place) = beyond_clocks(survey.clocks, survey.ticks) {
         return refused(Limit::TickSet, place, before);
@@ -203,9 +203,9 @@ pub fn conclude(survey: Survey) -> Stepped
             configuration: before,
         };
     }
-    let full = survey.full;
-    if let Broken::At(place) = full {
-        return refused(Limit::Gap, place, before);
+    let past = survey.past;
+    if let Broken::At(place) = past {
+        return refused(Limit::Million, place, before);
     }
     let after = survey.after;
     Stepped {
@@ -228,10 +228,10 @@ pub fn conclude_same(first: Survey, second: Survey) -> SamePlace
         return refused_same(Limit::Records, place);
     }
     if let Broken::At(place) = out_at(first) {
-        return refused_same(Limit::Configuration, place);
+        return refused_same(Limit::ConfigurationWord, place);
     }
     if let Broken::At(place) = out_at(second) {
-        return refused_same(Limit::Configuration, place);
+        return refused_same(Limit::ConfigurationWord, place);
     }
     let one = first.before;
     let other = second.before;

@@ -8,7 +8,7 @@ use borrow.Author.Tests.{leb-true, leb-false}
 use lib.Dec.{leb}
 use lib.ListN.{length, drop, take, replicate, length-drop, length-map}
 use lib.Seq.{sets, take-all, take-take, take-append-seam}
-use Rattle.limit.specs.declared.Limit.the-variants.{Records, Configuration as ConfigurationWord, TickSet}
+use Rattle.limit.specs.declared.Limit.the-variants.{Records, ConfigurationWord, TickSet}
 use Rattle.limit.specs.declared.Place.{Place}
 use Rattle.constraint.specs.Lists.{at, empty, recordFits, firstUnfit, brokenRecord, brokenWord}
 use Rattle.constraint.specs.Meaning.{definedOf}

@@ -10,8 +10,8 @@ use Rattle.table.proofs.Passes.{every-table-passes}
 use Rattle.recording.specs.Body.{Ending, ended, refusedAt}
 use Rattle.recording.specs.declared.Step.{Step}
 use Rattle.run.specs.Demands.{Demand1, Demand2, Demand3}
-use Rattle.run.specs.Judgement.{Accepted, Ends, at-end, fails, gap}
-use Rattle.run.specs.Refusals.{RunRefuses, by-table, by-reading, by-gap}
+use Rattle.run.specs.Judgement.{Accepted, Ends, at-end, fails, past}
+use Rattle.run.specs.Refusals.{RunRefuses, by-table, by-reading, by-million}
 use Rattle.run.specs.Run.{Said, accepted, violated, refused, endingSaid, ran, runTable, withTable, runOf, zeros, tableOf, readingBy}
 use Rattle.run.proofs.JudgingLaws.{after, Split, split, judged-split}
 use Rattle.run.proofs.RefusalLaws.{step-refused, step-given-back, same-place-refused}
@@ -43,7 +43,7 @@ demand-2 t r e =
 when-refused : (t r : List ℕ) {n p : ℕ} → RunRefuses t r n p → runOf t r .said ≡ refused n p
 when-refused t r {n} {p} (by-table e) = rw (run-refused t r n p e)
 when-refused t r (by-reading e q h) = rw (run-split t r e (record { accepted = readingBy t r .steps; left = []; said = endingSaid (readingBy t r .ending); place = sym (append-nil _); held = h; ends = at-end })) (ap endingSaid q)
-when-refused t r (by-gap before later s c e q h hold f) = rw (run-split t r e (record { accepted = before; left = s ∷ later; said = _; place = q; held = h; ends = gap hold f }))
+when-refused t r (by-million before later s c e q h hold f) = rw (run-split t r e (record { accepted = before; left = s ∷ later; said = _; place = q; held = h; ends = past hold f }))
 
 -- of a verdict that is a refusal: the run is refused so
 abbrev Refusing : (t r : List ℕ) → Said → Type 0
@@ -60,7 +60,7 @@ module _ (t r : List ℕ) where
     end-refuses : {ss left : List Step} {said : Said} → readingBy t r .steps ≡ ss ++ left → Accepted (tableOf t .records) ss → Ends (tableOf t .records) (readingBy t r .ending) ss left said → Refusing t r said
     end-refuses place h at-end = ending-refuses (rw (place, append-nil) h) (readingBy t r .ending) refl
     end-refuses place h (fails f) = tt
-    end-refuses place h (gap hold f) = by-gap _ _ _ _ e place h hold f
+    end-refuses place h (past hold f) = by-million _ _ _ _ e place h hold f
 
   run-refuses : Refusing t r (runOf t r .said)
   run-refuses = go (table.readTable t .said) refl

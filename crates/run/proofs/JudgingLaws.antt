@@ -1,4 +1,4 @@
--- A table's slots behind its records hold and have no million, so a step's outcome is read off `Every` and `First` over all slots; and so is a
+-- A table's slots behind its records hold and have no million, so a step's outcome is read off `Every` and `FirstWithout` over all slots; and so is a
 -- whole run: every list of steps splits into accepted ones and what ends them, and judging ends as it splits. Assumes nothing.
 use mathlib.Core.Path.{_≡_, refl, sym, ap, _∙_}
 use mathlib.Core.Logic.{_⊎_, inl, inr}
@@ -21,13 +21,13 @@ use Rattle.table.specs.Reader as table
 use Rattle.grammar.specs.declared.Table.{Table}
 use Rattle.recording.specs.Body.{Ending}
 use Rattle.recording.specs.declared.Step.{Step}
-use Rattle.run.specs.Judgement.{movedBy, wordAfter, HoldsAt, StaysAt, Every, none, more, First, Accepted, Ends, at-end, fails, gap}
+use Rattle.run.specs.Judgement.{movedBy, wordAfter, HoldsAt, StaysAt, Every, none, more, FirstWithout, Accepted, Ends, at-end, fails, past}
 use Rattle.judging.specs.Million.{inMillion, firstPast}
 use Rattle.run.specs.Run.{Said, violated, endingSaid, lineOf, afterStep, judgeAll, recordsOf, startOf}
 use Rattle.judging.specs.Step.{firstFailing, moved, judged}
-use Rattle.judging.specs.declared.Outcome.the-variants.{Held, Failed, Full}
+use Rattle.judging.specs.declared.Outcome.the-variants.{Held, Failed, PastMillion}
 use Rattle.judging.proofs.MillionLaws.{out-after}
-use Rattle.judging.proofs.StepLaws.{Finds, finds-failing, finds-past, judged-failed, judged-full, judged-held}
+use Rattle.judging.proofs.StepLaws.{Finds, finds-failing, finds-past, judged-failed, judged-past, judged-held}
 
 -- ---- the first record that does not pass a test, the first of these having the place i
 
@@ -40,7 +40,7 @@ stops-at true b i n = absurd (n refl)
 stops-at false b i n = ap at (omega arith)
 
 abbrev EveryOrFirst : (P : Constraint → Type 0) → List Constraint → Type 0
-EveryOrFirst P rs = Every P rs ⊎ ((r : Constraint) × First P rs r)
+EveryOrFirst P rs = Every P rs ⊎ ((r : Constraint) × FirstWithout P rs r)
 
 module _ (t : Constraint → Bool) where
   abbrev Passes : Constraint → Type 0
@@ -63,10 +63,10 @@ module _ (t : Constraint → Bool) where
       go true e (inr (q, f)) = inr (q, record { earlier = r ∷ f .earlier; later = f .later; place = ap (λ l. r ∷ l) (f .place); before = more e (f .before); here = f .here })
       go false e s = inr (r, record { earlier = []; later = rs; place = refl; before = none; here = λ h. false≢true (sym e ∙ h) })
 
-abbrev placeOf : {P : Constraint → Type 0} {rs : List Constraint} {r : Constraint} → First P rs r → Place
+abbrev placeOf : {P : Constraint → Type 0} {rs : List Constraint} {r : Constraint} → FirstWithout P rs r → Place
 placeOf f = record { 0 = 1 + length (f .earlier) }
 
-first-found : (t : Constraint → Bool) {rs : List Constraint} {r : Constraint} (f : First (Passes t) rs r) → firstNot t 1 rs ≡ At (placeOf f)
+first-found : (t : Constraint → Bool) {rs : List Constraint} {r : Constraint} (f : FirstWithout (Passes t) rs r) → firstNot t 1 rs ≡ At (placeOf f)
 first-found t f = ap (firstNot t 1) (f .place) ∙ first-at t 1 _ (f .later) (f .before) (f .here)
 
 -- ---- the slots behind the records
@@ -131,7 +131,7 @@ module _ (n : ℕ) (rs all : List Constraint) (room : length rs ≤ n) (unused :
     past-first : firstPast 1 rs (after all (ss ++ s ∷ []) .words) ≡ firstNot (λ r. inMillion r (wordAfter (ss ++ s ∷ []) r)) 1 all
     past-first = rw unused (found-slot (wordAfter (ss ++ s ∷ [])) finds-past (λ w. refl) 1 n rs room)
 
-    step-fails : {r : Constraint} (f : First (HoldsAt ss s) all r) → judged F rs (after all ss) ≡ record { outcome = Failed (placeOf f); configuration = after all ss }
+    step-fails : {r : Constraint} (f : FirstWithout (HoldsAt ss s) all r) → judged F rs (after all ss) ≡ record { outcome = Failed (placeOf f); configuration = after all ss }
     step-fails f = judged-failed _ rs (after all ss) (placeOf f) (fails-first ∙ first-found _ f)
 
     -- from words in range, once every record held
@@ -142,8 +142,8 @@ module _ (n : ℕ) (rs all : List Constraint) (room : length rs ≤ n) (unused :
       out-first : brokenWord rs (after all (ss ++ s ∷ []) .words) ≡ firstNot (λ r. inMillion r (wordAfter (ss ++ s ∷ []) r)) 1 all
       out-first = out-after F rs (after all ss .words) _ all-moved inside none-fails ∙ past-first
 
-      step-full : {r : Constraint} (f : First (StaysAt ss s) all r) → judged F rs (after all ss) ≡ record { outcome = Full (placeOf f); configuration = after all ss }
-      step-full f = judged-full _ rs (after all ss) (after all (ss ++ s ∷ [])) all-moved none-fails (placeOf f) (out-first ∙ first-found _ f)
+      step-past : {r : Constraint} (f : FirstWithout (StaysAt ss s) all r) → judged F rs (after all ss) ≡ record { outcome = PastMillion (placeOf f); configuration = after all ss }
+      step-past f = judged-past _ rs (after all ss) (after all (ss ++ s ∷ [])) all-moved none-fails (placeOf f) (out-first ∙ first-found _ f)
 
       module _ (stay : Every (StaysAt ss s) all) where
         still-inside : brokenWord rs (after all (ss ++ s ∷ []) .words) ≡ Nowhere
@@ -152,7 +152,7 @@ module _ (n : ℕ) (rs all : List Constraint) (room : length rs ≤ n) (unused :
         step-held : judged F rs (after all ss) ≡ record { outcome = Held; configuration = after all (ss ++ s ∷ []) }
         step-held = judged-held _ rs (after all ss) (after all (ss ++ s ∷ [])) all-moved none-fails still-inside
 
-  line-found : {P : Constraint → Type 0} {r : Constraint} (f : First P all r) → lineOf rs (placeOf f) ≡ r .line .0
+  line-found : {P : Constraint → Type 0} {r : Constraint} (f : FirstWithout P all r) → lineOf rs (placeOf f) ≡ r .line .0
   line-found f =
       let k = length (f .earlier) in
       let e : getD rs k empty ≡ _ = sym (getD-slots n rs k room) ∙ ap (λ l. getD l k empty) (sym unused ∙ f .place) ∙ getD-append-seam (f .earlier) _ (f .later) empty in
@@ -179,7 +179,7 @@ module _ (n : ℕ) (rs all : List Constraint) (room : length rs ≤ n) (unused :
   unfolding judgeAll afterStep
   stops inside at-end i = refl
   stops {ss = ss} inside (fails {s} f) i = rw (step-fails ss s f) (ap (λ (l : ℕ). record { said = violated l (s .time .0); steps = i; configuration = after all ss }) (line-found f))
-  stops inside (gap {s} h f) i = rw (step-full _ s inside h f) refl
+  stops inside (past {s} h f) i = rw (step-past _ s inside h f) refl
 
 -- ---- where a run stops
 
@@ -220,7 +220,7 @@ split-more all e ss (s ∷ qs) h =
   where
     go : EveryOrFirst (HoldsAt ss s) all → EveryOrFirst (StaysAt ss s) all → (Every (HoldsAt ss s) all → Every (StaysAt ss s) all → Split all e (ss ++ s ∷ [] ++ qs)) → Split all e (ss ++ s ∷ qs)
     go (inr (r, f)) x next = record { accepted = ss; left = s ∷ qs; said = _; place = refl; held = h; ends = fails f }
-    go (inl hold) (inr (r, f)) next = record { accepted = ss; left = s ∷ qs; said = _; place = refl; held = h; ends = gap hold f }
+    go (inl hold) (inr (r, f)) next = record { accepted = ss; left = s ∷ qs; said = _; place = refl; held = h; ends = past hold f }
     go (inl hold) (inl stay) next = rw append-snoc at (next hold stay)
 
 pub split : (all : List Constraint) (e : Ending) (qs : List Step) → Split all e qs

@@ -6,7 +6,7 @@ use mathlib.Core.List.{List}
 use Prim.Native.Nat.{ℕ, _^_}
 use borrow.Author.Tests.{lt-ltb, le-ltb, ltb-true, ltb-false}
 use lib.Dec.{ltb}
-use Rattle.limit.specs.declared.Limit.the-variants.{Records, Configuration as ConfigurationWord, TickSet}
+use Rattle.limit.specs.declared.Limit.the-variants.{Records, ConfigurationWord, TickSet}
 use Rattle.constraint.specs.Lists.{at, brokenRecord, brokenWord}
 use Rattle.constraint.specs.SamePlace.{Answer, samePlaceOf, same, different, refuseAt, sameWords}
 use Rattle.constraint.specs.SamePlace as place
@@ -20,7 +20,7 @@ use Rattle.run.specs.Refusals.{StepRefuses, SamePlaceRefuses}
 use Rattle.run.specs.Refusals as refusals
 use Rattle.judging.specs.Single.{StepSaid, accepted, violated, refused, StepTold, refusesAt, beyondClocks, judgedTold, stepOf}
 use Rattle.judging.specs.Step.{firstFailing, moved, handedBack, judged}
-use Rattle.judging.specs.declared.Outcome.the-variants.{Held, Failed, Full}
+use Rattle.judging.specs.declared.Outcome.the-variants.{Held, Failed, PastMillion}
 use Rattle.judging.proofs.MillionLaws.{out-is-past}
 
 -- ---- the single step
@@ -43,10 +43,10 @@ module _ (clocks : ℕ) (rs : List Constraint) (c : Configuration) (f : ℕ) whe
   module _ (p59 : brokenRecord clocks rs ≡ Nowhere) where
     module _ (p60 : brokenWord rs (c .words) ≡ Nowhere) where
       judging : ltb f (2 ^ clocks) ≡ true → (x y : Broken) → firstFailing (bits f) 1 rs (c .words) ≡ x → brokenWord rs after ≡ y
-          → Refuses (judgedTold (handedBack Failed x c (handedBack Full y c (record { outcome = Held; configuration = record { words = after } }))))
+          → Refuses (judgedTold (handedBack Failed x c (handedBack PastMillion y c (record { outcome = Held; configuration = record { words = after } }))))
       judging u (At p) y e q = tt
       judging u Nowhere Nowhere e q = tt
-      judging u Nowhere (At p) e q = (refusals.by-gap p59 p60 (ltb-true f (2 ^ clocks) u) e (sym (out-is-past (bits f) 1 rs (c .words) p60 e) ∙ q), refl)
+      judging u Nowhere (At p) e q = (refusals.by-million p59 p60 (ltb-true f (2 ^ clocks) u) e (sym (out-is-past (bits f) 1 rs (c .words) p60 e) ∙ q), refl)
 
       ticks : (x : Bool) → ltb f (2 ^ clocks) ≡ x → Refuses (refusesAt TickSet (cond x Nowhere (at 0)) c judges)
       unfolding judged
@@ -71,7 +71,7 @@ module _ (clocks : ℕ) (rs : List Constraint) (c : Configuration) (f : ℕ) whe
   refuses-step (refusals.by-records e) = rw e
   refuses-step (refusals.by-words e q) = rw (e, q)
   refuses-step (refusals.by-ticks e q u) = rw (e, q, le-ltb f (2 ^ clocks) u)
-  refuses-step (refusals.by-gap e q u h g) = rw (e, q, lt-ltb f (2 ^ clocks) u, h, out-is-past (bits f) 1 rs (c .words) q h, g)
+  refuses-step (refusals.by-million e q u h g) = rw (e, q, lt-ltb f (2 ^ clocks) u, h, out-is-past (bits f) 1 rs (c .words) q h, g)
 
 pub step-refused : (clocks : ℕ) (rs : List Constraint) (c : Configuration) (f n p : ℕ) → stepOf clocks rs c f .said ≡ refused n p ↔ StepRefuses clocks rs (c .words) f n p
 step-refused clocks rs c f n p = (λ e. (rw e at (step-refuses clocks rs c f)) .0, refuses-step clocks rs c f)

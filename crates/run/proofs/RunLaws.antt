@@ -37,7 +37,7 @@ use Rattle.run.specs.declared.Progress.{Progress}
 use Rattle.judging.specs.declared.Judged.{Judged}
 use Rattle.run.specs.declared.Next.{Next}
 use Rattle.judging.specs.declared.Outcome.{Outcome}
-use Rattle.judging.specs.declared.Outcome.the-variants.{Held, Failed, Full}
+use Rattle.judging.specs.declared.Outcome.the-variants.{Held, Failed, PastMillion}
 use Rattle.run.specs.declared.Verdict.{Verdict}
 use Rattle.run.specs.declared.Verdict.the-variants.{Accepted, Violated, Refused}
 use Rattle.judging.proofs.StepLaws.{judged-in-range}
@@ -91,7 +91,7 @@ module _ (rs : List Constraint) (b : Progress) where
           → afterStep rs (b .steps .0) (b .step) o (b .configuration) c (λ d. judgeAll rs (suc (b .steps .0)) d (g .steps) (g .ending)) ≡ left (settled rs b o c) g
       step Held c = unfold afterStep in rw (add-one (b .steps .0))
       step (Failed p) c = unfold afterStep in refl
-      step (Full p) c = unfold afterStep in refl
+      step (PastMillion p) c = unfold afterStep in refl
 
       go : (x : Bool) → judgeReading rs (b .steps .0) (b .configuration) (cond x (record { steps = b .step ∷ g .steps; ending = g .ending }) g) ≡ left (cond x (settles rs b j) (on b)) g
       go true = unfold judgeAll in step (j .outcome) (j .configuration)
@@ -107,7 +107,7 @@ module _ (rs : List Constraint) (b : Progress) where
       step : (o : Outcome) (c : Configuration) → settled rs b o c .progress .step ≡ b .step
       step Held c = refl
       step (Failed p) c = refl
-      step (Full p) c = refl
+      step (PastMillion p) c = refl
 
       go : (x : Bool) → cond x (settles rs b j) (on b) .progress .step ≡ b .step
       go true = step (j .outcome) (j .configuration)
@@ -212,7 +212,7 @@ kept-closed rs b e = go (b .step .begun)
     step : (o : Outcome) (c : Configuration) → brokenWord rs (c .words) ≡ Nowhere → Kept rs (b .steps .0 + 1) (settled rs b o c .progress)
     step Held c q = record { ready = q; few = omega arith }
     step (Failed p) c q = record { ready = e; few = omega arith }
-    step (Full p) c q = record { ready = e; few = omega arith }
+    step (PastMillion p) c q = record { ready = e; few = omega arith }
 
     go : (x : Bool) → Kept rs (b .steps .0 + 1) (cond x (settles rs b j) (on b) .progress)
     go true = step (j .outcome) (j .configuration) (judged-in-range _ rs (b .configuration) e)

@@ -19,7 +19,7 @@ use Rattle.run.specs.Judgement.{nonempty, bare, SameExercise}
 use Rattle.run.specs.Run.{Judging, afterStep, judgeAll, ran}
 use Rattle.judging.specs.Step.{judged}
 use Rattle.judging.specs.declared.Outcome.{Outcome}
-use Rattle.judging.specs.declared.Outcome.the-variants.{Held, Failed, Full}
+use Rattle.judging.specs.declared.Outcome.the-variants.{Held, Failed, PastMillion}
 use Rattle.judging.proofs.StepLaws.{judged-none, judged-in-range}
 
 -- ---- one more step accepted
@@ -32,7 +32,7 @@ after-later : (rs : List Constraint) (n : ℕ) (s : Step) (o : Outcome) (b a : C
 unfolding afterStep
 after-later rs n s Held b a f g h = h _
 after-later rs n s (Failed p) b a f g h = refl
-after-later rs n s (Full p) b a f g h = refl
+after-later rs n s (PastMillion p) b a f g h = refl
 
 judged-later : (rs : List Constraint) (n : ℕ) (c : Configuration) (ss : List Step) (e : Ending) → judgeAll rs (suc n) c ss e ≡ later (judgeAll rs n c ss e)
 unfolding judgeAll
@@ -66,7 +66,7 @@ module _ (rs : List Constraint) where
   unfolding afterStep
   after-alone Fs ss s Held b a f g e h = h
   after-alone Fs ss s (Failed p) b a f g e h = record { said = refl; tick-sets = rw e; configuration = refl }
-  after-alone Fs ss s (Full p) b a f g e h = record { said = refl; tick-sets = rw e; configuration = refl }
+  after-alone Fs ss s (PastMillion p) b a f g e h = record { said = refl; tick-sets = rw e; configuration = refl }
 
   module _ (c : Configuration) (s : Step) (ss : List Step) where
     empty-held : eqb (s .ticks) 0 ≡ true → brokenWord rs (c .words) ≡ Nowhere → judged (bits (s .ticks)) rs c ≡ record { outcome = Held; configuration = c }

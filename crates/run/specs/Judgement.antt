@@ -7,7 +7,7 @@ use Prim.Native.Nat.{ℕ, suc}
 use lib.Dec.{eqb}
 use lib.ListN.{length, take}
 use Rattle.limit.specs.Limit.{numberOf}
-use Rattle.limit.specs.declared.Limit.the-variants.{Gap}
+use Rattle.limit.specs.declared.Limit.the-variants.{Million}
 use Rattle.constraint.specs.Meaning.{holds, nextWord, start}
 use Rattle.constraint.specs.Ticks.{bits}
 use Rattle.constraint.specs.declared.Constraint.{Constraint}
@@ -40,7 +40,7 @@ pub data Every {A : Type 0} (P : A → Type 0) : List A → Type 0 where
   more : {x : A} {xs : List A} → P x → Every P xs → Every P (x ∷ xs)
 
 -- the first of a list that has no P, all before it having P
-pub record First {A : Type 0} (P : A → Type 0) (xs : List A) (x : A) : Type 0 where
+pub record FirstWithout {A : Type 0} (P : A → Type 0) (xs : List A) (x : A) : Type 0 where
   pub earlier : List A
   pub later : List A
   pub place : xs ≡ earlier ++ x ∷ later
@@ -57,8 +57,8 @@ Accepted rs ss = (before after : List Step) (s : Step) → ss ≡ before ++ s �
 -- order, fails; or in which every record holds and a word leaves its million, 51
 pub data Ends (rs : List Constraint) (ending : Ending) (accepted : List Step) : List Step → Said → Type 0 where
   at-end : Ends rs ending accepted [] (endingSaid ending)
-  fails : {s : Step} {later : List Step} {r : Constraint} → First (HoldsAt accepted s) rs r → Ends rs ending accepted (s ∷ later) (violated (r .line .0) (s .time .0))
-  gap : {s : Step} {later : List Step} {r : Constraint} → Every (HoldsAt accepted s) rs → First (StaysAt accepted s) rs r → Ends rs ending accepted (s ∷ later) (refused (numberOf Gap) (s .mark .0))
+  fails : {s : Step} {later : List Step} {r : Constraint} → FirstWithout (HoldsAt accepted s) rs r → Ends rs ending accepted (s ∷ later) (violated (r .line .0) (s .time .0))
+  past : {s : Step} {later : List Step} {r : Constraint} → Every (HoldsAt accepted s) rs → FirstWithout (StaysAt accepted s) rs r → Ends rs ending accepted (s ∷ later) (refused (numberOf Million) (s .mark .0))
 
 -- a recording is accepted up to the first step at which some constraint fails, the one highest in the table is named, and after the accepted
 -- steps every word is what the rules give

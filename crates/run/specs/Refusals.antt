@@ -4,7 +4,7 @@ use mathlib.Core.List.{List, _∷_, _++_}
 use Prim.Native.Nat.{ℕ, _^_, _<_, _≤_}
 use Rattle.limit.specs.Limit.{numberOf}
 use Rattle.limit.specs.declared.Limit.{Limit}
-use Rattle.limit.specs.declared.Limit.the-variants.{Records, Configuration as ConfigurationWord, TickSet, Gap}
+use Rattle.limit.specs.declared.Limit.the-variants.{Records, ConfigurationWord, TickSet, Million}
 use Rattle.limit.specs.declared.Place.{Place}
 use Rattle.constraint.specs.Lists.{brokenRecord, brokenWord}
 use Rattle.constraint.specs.Ticks.{bits}
@@ -14,7 +14,7 @@ use Rattle.constraint.specs.declared.Word.{Word}
 use Rattle.table.specs.Reader as table
 use Rattle.recording.specs.Body.{refusedAt}
 use Rattle.recording.specs.declared.Step.{Step}
-use Rattle.run.specs.Judgement.{Accepted, Every, First, HoldsAt, StaysAt}
+use Rattle.run.specs.Judgement.{Accepted, Every, FirstWithout, HoldsAt, StaysAt}
 use Rattle.judging.specs.Million.{firstPast}
 use Rattle.run.specs.Run.{tableOf, readingBy}
 use Rattle.judging.specs.Step.{firstFailing, moved}
@@ -27,26 +27,26 @@ pub data RunRefuses (t r : List ℕ) : (number place : ℕ) → Type 0 where
       → readingBy t r .ending ≡ refusedAt l p
       → Accepted (tableOf t .records) (readingBy t r .steps)
       → RunRefuses t r (numberOf l) p
-  by-gap : (before later : List Step) (s : Step) (c : Constraint)
+  by-million : (before later : List Step) (s : Step) (c : Constraint)
       → table.readTable t .said ≡ table.read
       → readingBy t r .steps ≡ before ++ s ∷ later
       → Accepted (tableOf t .records) before
       → Every (HoldsAt before s) (tableOf t .records)
-      → First (StaysAt before s) (tableOf t .records) c
-      → RunRefuses t r (numberOf Gap) (s .mark .0)
+      → FirstWithout (StaysAt before s) (tableOf t .records) c
+      → RunRefuses t r (numberOf Million) (s .mark .0)
 
 -- a single step is refused: 59; 60; 61; and 51, after every constraint held; each where those before it are kept
 pub data StepRefuses (clocks : ℕ) (rs : List Constraint) (ws : List Word) (f : ℕ) : (number place : ℕ) → Type 0 where
   by-records : {p : Place} → brokenRecord clocks rs ≡ At p → StepRefuses clocks rs ws f (numberOf Records) (p .0)
   by-words : {p : Place} → brokenRecord clocks rs ≡ Nowhere → brokenWord rs ws ≡ At p → StepRefuses clocks rs ws f (numberOf ConfigurationWord) (p .0)
   by-ticks : brokenRecord clocks rs ≡ Nowhere → brokenWord rs ws ≡ Nowhere → 2 ^ clocks ≤ f → StepRefuses clocks rs ws f (numberOf TickSet) 0
-  by-gap : {p : Place}
+  by-million : {p : Place}
       → brokenRecord clocks rs ≡ Nowhere
       → brokenWord rs ws ≡ Nowhere
       → f < 2 ^ clocks
       → firstFailing (bits f) 1 rs ws ≡ Nowhere
       → firstPast 1 rs (moved (bits f) rs ws) ≡ At p
-      → StepRefuses clocks rs ws f (numberOf Gap) (p .0)
+      → StepRefuses clocks rs ws f (numberOf Million) (p .0)
 
 -- the same-place question is refused: 59; 60 of the first configuration; 60 of the second
 pub data SamePlaceRefuses (clocks : ℕ) (rs : List Constraint) (ws vs : List Word) : (number place : ℕ) → Type 0 where

@@ -5,7 +5,7 @@ use Prim.Native.Nat.{ℕ, suc, _-_}
 use lib.IntN.{pos}
 use lib.ListN.{getD, replicate}
 use Rattle.limit.specs.Limit.{numberOf}
-use Rattle.limit.specs.declared.Limit.the-variants.{Gap}
+use Rattle.limit.specs.declared.Limit.the-variants.{Million}
 use Rattle.limit.specs.declared.Place.{Place}
 use Rattle.constraint.specs.Lists.{empty, slots, startWords}
 use Rattle.constraint.specs.Meaning.{word}
@@ -20,7 +20,7 @@ use Rattle.recording.specs.declared.Step.{Step}
 use Rattle.judging.specs.Step.{judged}
 use Rattle.judging.specs.declared.Judged.{Judged}
 use Rattle.judging.specs.declared.Outcome.{Outcome}
-use Rattle.judging.specs.declared.Outcome.the-variants.{Held, Failed, Full}
+use Rattle.judging.specs.declared.Outcome.the-variants.{Held, Failed, PastMillion}
 use Rattle.run.specs.declared.Report.{Report}
 use Rattle.run.specs.declared.Verdict.{Verdict}
 use Rattle.run.specs.declared.Verdict.the-variants.{Accepted, Violated, Refused}
@@ -68,7 +68,7 @@ pub record Judging : Type 0 where
 unfoldable pub afterStep : List Constraint → (n : ℕ) → Step → Outcome → (before after : Configuration) → (Configuration → Judging) → Judging
 afterStep rs n s Held b a onward = onward a
 afterStep rs n s (Failed p) b a onward = record { said = violated (lineOf rs p) (s .time .0); steps = n; configuration = b }
-afterStep rs n s (Full p) b a onward = record { said = refused (numberOf Gap) (s .mark .0); steps = n; configuration = b }
+afterStep rs n s (PastMillion p) b a onward = record { said = refused (numberOf Million) (s .mark .0); steps = n; configuration = b }
 
 unfoldable pub judgeAll : List Constraint → (n : ℕ) → Configuration → List Step → Ending → Judging
 judgeAll rs n c [] e = record { said = endingSaid e; steps = n; configuration = c }

@@ -4,7 +4,7 @@ use mathlib.Core.Bool.{Bool, true, false, cond}
 use mathlib.Core.List.{List}
 use Prim.Native.Nat.{ℕ, _+_}
 use lib.ListN.{drop}
-use Rattle.limit.specs.declared.Limit.the-variants.{Gap}
+use Rattle.limit.specs.declared.Limit.the-variants.{Million}
 use Rattle.constraint.specs.Ticks.{bits}
 use Rattle.constraint.specs.declared.Configuration.{Configuration}
 use Rattle.constraint.specs.declared.Constraint.{Constraint}
@@ -20,7 +20,7 @@ use Rattle.run.specs.declared.Progress.{Progress}
 use Rattle.judging.specs.declared.Judged.{Judged}
 use Rattle.run.specs.declared.Next.{Next}
 use Rattle.judging.specs.declared.Outcome.{Outcome}
-use Rattle.judging.specs.declared.Outcome.the-variants.{Held, Failed, Full}
+use Rattle.judging.specs.declared.Outcome.the-variants.{Held, Failed, PastMillion}
 use Rattle.run.specs.declared.Verdict.{Verdict}
 use Rattle.run.specs.declared.Verdict.the-variants.{Accepted, Violated, Refused}
 
@@ -40,7 +40,7 @@ over v b = record { verdict = v; progress = b }
 abbrev pub settled : List Constraint → Progress → Outcome → Configuration → Next
 settled rs b Held c = on (record { configuration = c; steps = record { 0 = b .steps .0 + 1 }; step = b .step })
 settled rs b (Failed p) c = over (Violated (record { 0 = lineOf rs p }) (b .step .time)) b
-settled rs b (Full p) c = over (Refused (record { limit = Gap; place = b .step .mark })) b
+settled rs b (PastMillion p) c = over (Refused (record { limit = Million; place = b .step .mark })) b
 
 abbrev pub settles : List Constraint → Progress → Judged → Next
 settles rs b j = settled rs b (j .outcome) (j .configuration)

@@ -93,11 +93,11 @@ fn settle(records: [Constraint; 64], count: usize, progress: Progress, judged: J
                 progress,
             )
         }
-        Outcome::Full(_) => {
+        Outcome::PastMillion(_) => {
             let place = step.mark;
             over(
                 Verdict::Refused(Refusal {
-                    limit: Limit::Gap,
+                    limit: Limit::Million,
                     place,
                 }),
                 progress,

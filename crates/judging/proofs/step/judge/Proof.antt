@@ -5,7 +5,7 @@ use Rattle.constraint.specs.Lists.{slots}
 use Rattle.constraint.specs.Ticks.{bits}
 use Rattle.constraint.proofs.TickSets.{bits-zero}
 use Rattle.judging.proofs.MillionLaws.{out-after}
-use Rattle.judging.proofs.StepLaws.{judged-failed, judged-full, judged-held, judged-none}
+use Rattle.judging.proofs.StepLaws.{judged-failed, judged-past, judged-held, judged-none}
 use borrow.Author.Needs.{needs}
 use Rattle.judging.proofs.step.judge.Statement.{statement}
 use Rattle.judging.proofs.step.judge.Tie as tie
@@ -32,7 +32,7 @@ returns-3 c =
     let none-failing = sym (f .first-failing .ensures) ∙ m .before .enum-told .given .1 in
     let out = out-after (bits (s .ticks)) (slots (s .count) (s .records)) (s .configuration .words) _ (m .moved .ensures) (f .before .before .pre .1) none-failing in
     let full = out ∙ sym (b .first-past .ensures) ∙ c .before .before .place2 .given .1 in
-    c .handed-back3 .ensures ∙ sym (judged-full (bits (s .ticks)) (slots (s .count) (s .records)) (s .configuration) _ (m .moved .ensures) none-failing _ full)
+    c .handed-back3 .ensures ∙ sym (judged-past (bits (s .ticks)) (slots (s .count) (s .records)) (s .configuration) _ (m .moved .ensures) none-failing _ full)
 
 returns-4 : tie.Need-returns-4
 returns-4 c =

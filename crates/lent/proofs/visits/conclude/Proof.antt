@@ -54,7 +54,7 @@ returns-5 c =
     let o = b .before .before .before in
     let u = o .before .before .before in
     let s = u .before .before .before .before .args .survey in
-    ap stepTold (c .refused4 .ensures) ∙ sym (refused-51 s (p59 u) (p60 o) (p61 b) (f .enum-told4 .given .1) _ (c .before .before .full .given .1))
+    ap stepTold (c .refused4 .ensures) ∙ sym (refused-51 s (p59 u) (p60 o) (p61 b) (f .enum-told4 .given .1) _ (c .before .before .past .given .1))
 
 returns-6 : tie.Need-returns-6
 returns-6 c =
