@@ -11,11 +11,10 @@ use lib.Dec.{leb}
 use lib.IntN.{ℤ, pos, negsuc, ℤ-discrete}
 use lib.ListN.{length}
 use Rattle.limit.specs.Limit.{numberOf}
-use Rattle.limit.specs.declared.Limit.{Limit}
-use Rattle.limit.proofs.Numbers.{numbers-differ}
+use Rattle.limit.proofs.Numbers.{refusals-differ}
 use Rattle.constraint.specs.Lists.{at, empty, recordFits, firstUnfit, brokenRecord, firstOut}
 use Rattle.constraint.specs.Meaning.{word, definedOf, wellFormed, inRange}
-use Rattle.constraint.specs.SamePlace.{Answer, answer, same, different, samePlaceOf, sameInteger, sameWord, sameWords, accepts, AllAlike, SomeApart, recordAt, wordAt, Demand3, Answered}
+use Rattle.constraint.specs.SamePlace.{Answer, answer, AnswerDetermines, same, different, samePlaceOf, sameInteger, sameWord, sameWords, accepts, AllAlike, SomeApart, recordAt, wordAt, Demand3, SamePlaceMeant, Answered}
 use Rattle.constraint.specs.Ticks.{Ticks, none, addingAll}
 use Rattle.constraint.specs.declared.Broken.{Broken}
 use Rattle.constraint.specs.declared.Broken.the-variants.{Nowhere}
@@ -127,7 +126,7 @@ told clocks earlier i (r ∷ rs) (w ∷ ws) (v ∷ vs) ok l m p q =
         other (no n) d = (0, omega arith, words-apart clocks r (record-passes clocks earlier i r rs ok) w v wr vr (λ e. n (ap (λ (x : Word). x .0) e)))
 
 -- ---- demand 3: for every list of records, every clock count and every two configurations of 64 words
-pub demand-3 : (clocks : ℕ) (rs : List Constraint) (ws vs : List Word) → length ws ≡ 64 → length vs ≡ 64 → Demand3 clocks rs ws vs (samePlaceOf clocks rs ws vs)
+pub demand-3 : SamePlaceMeant
 demand-3 clocks rs ws vs lw lv p59 p60 q60 = rw (p59, p60, q60) (go (sameWords ws vs) refl)
   where
     t : Told clocks rs ws vs
@@ -154,12 +153,12 @@ demand-3 clocks rs ws vs lw lv p59 p60 q60 = rw (p59, p60, q60) (go (sameWords w
 pub answered : (clocks : ℕ) (rs : List Constraint) (ws vs : List Word) → length ws ≡ 64 → length vs ≡ 64 → (said : Answer) → said ≡ samePlaceOf clocks rs ws vs → Answered clocks rs ws vs said
 answered clocks rs ws vs lw lv said e = record { given = e; meant = rw e (demand-3 clocks rs ws vs lw lv) }
 
--- an answer in document 01's words is the answer of one value alone: no two refusals have the same number and place
-pub answer-determines : (x y : SamePlace) → answer x ≡ answer y → x ≡ y
+-- an answer in document 01's words is the answer of one value alone
+pub answer-determines : AnswerDetermines
 answer-determines (Refused r) (Refused s) e =
     let n : numberOf (r .limit) ≡ numberOf (s .limit) = cc in
     let p : r .place .0 ≡ s .place .0 = cc in
-    ap₂ (λ (l : Limit) (i : ℕ). Refused (record { limit = l; place = record { 0 = i } })) (numbers-differ (r .limit) (s .limit) n) p
+    ap Refused (refusals-differ r s n p)
 answer-determines (Refused r) Same e = cc
 answer-determines (Refused r) Different e = cc
 answer-determines Same (Refused s) e = cc

@@ -3,9 +3,12 @@ pub mod Demand3
 pub mod Edges
 pub mod Laws
 pub mod Letters
+pub mod MillionLaws
 pub mod Named
 pub mod OneMore
 pub mod OneRecord
+pub mod PlaceRefusals
+pub mod Slots
 pub mod TickSets
 pub mod Walk
 pub mod Words

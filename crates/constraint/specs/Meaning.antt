@@ -238,7 +238,3 @@ clocksFit clocks is = allBelow clocks is && distinct is
 
 abbrev pub wellFormed : ℕ → Constraint → Bool
 wellFormed clocks r = clocksFit clocks (clocksOf r) && parameterFits (counterOf (r .kind)) (r .parameter)
-
--- whether the record defines the clock i
-abbrev pub defines : Constraint → ℕ → Bool
-defines r i = among i (definedOf r)

@@ -10,6 +10,7 @@ use lib.ListN.{length, getD}
 use Rattle.limit.specs.Limit.{numberOf}
 use Rattle.limit.specs.declared.Limit.{Limit}
 use Rattle.limit.specs.declared.Limit.the-variants.{Records, ConfigurationWord}
+use Rattle.limit.specs.declared.Place.{Place}
 use Rattle.constraint.specs.Lists.{empty, brokenRecord, brokenWord}
 use Rattle.constraint.specs.Meaning.{word, holds, nextWord}
 use Rattle.constraint.specs.Ticks.{Ticks, Below}
@@ -32,6 +33,10 @@ abbrev pub answer : SamePlace → Answer
 answer (Refused r) = refused (numberOf (r .limit)) (r .place .0)
 answer Same = same
 answer Different = different
+
+-- the claim: no two values of the answer in code have one meaning
+abbrev pub AnswerDetermines : Type 0
+AnswerDetermines = (x y : SamePlace) → answer x ≡ answer y → x ≡ y
 
 abbrev pub refuseAt : Limit → Broken → Answer → Answer
 refuseAt l Nowhere otherwise = otherwise
@@ -59,6 +64,17 @@ samePlaceOf clocks rs ws vs =
     (refuseAt ConfigurationWord (brokenWord rs ws)
     (refuseAt ConfigurationWord (brokenWord rs vs)
     (cond (sameWords ws vs) same different)))
+
+-- ---- when it is refused: 59; 60 of the first configuration; 60 of the second; each where those before it are kept
+
+pub data SamePlaceRefuses (clocks : ℕ) (rs : List Constraint) (ws vs : List Word) : (number place : ℕ) → Type 0 where
+  by-records : {p : Place} → brokenRecord clocks rs ≡ At p → SamePlaceRefuses clocks rs ws vs (numberOf Records) (p .0)
+  by-first : {p : Place} → brokenRecord clocks rs ≡ Nowhere → brokenWord rs ws ≡ At p → SamePlaceRefuses clocks rs ws vs (numberOf ConfigurationWord) (p .0)
+  by-second : {p : Place} → brokenRecord clocks rs ≡ Nowhere → brokenWord rs ws ≡ Nowhere → brokenWord rs vs ≡ At p → SamePlaceRefuses clocks rs ws vs (numberOf ConfigurationWord) (p .0)
+
+-- the claim: exactly then, and with that number and place
+abbrev pub SamePlaceRefused : Type 0
+SamePlaceRefused = (clocks : ℕ) (rs : List Constraint) (ws vs : List Word) (n p : ℕ) → samePlaceOf clocks rs ws vs ≡ refused n p ↔ SamePlaceRefuses clocks rs ws vs n p
 
 -- ---- what the answer means
 
@@ -103,6 +119,10 @@ Demand3 clocks rs ws vs said =
     brokenWord rs ws ≡ Nowhere →
     brokenWord rs vs ≡ Nowhere →
     (said ≡ same ↔ AllAlike clocks rs ws vs) × (said ≡ different ↔ SomeApart clocks rs ws vs)
+
+-- the claim: demand 3 holds of the definition's answer, for all records and all configurations
+abbrev pub SamePlaceMeant : Type 0
+SamePlaceMeant = (clocks : ℕ) (rs : List Constraint) (ws vs : List Word) → length ws ≡ 64 → length vs ≡ 64 → Demand3 clocks rs ws vs (samePlaceOf clocks rs ws vs)
 
 -- what a call that answers the question promises: the definition's answer, and that demand 3 holds of it
 pub record Answered (clocks : ℕ) (rs : List Constraint) (ws vs : List Word) (said : Answer) : Type 0 where

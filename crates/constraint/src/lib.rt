@@ -1,5 +1,5 @@
-// One constraint of a table: its record and its word, what a step means for it, and whether two words of it stand at the same
-// place. Lists of records: which of them are let pass, which configurations are, and the same-place question on values.
+// One constraint of a table: its record and its word, and what a step means for it. Lists of records: which of them are let pass, and which
+// configurations are. The same-place question, of which this crate has the definition and what its answer means.
 
 mod place;
 mod rule;
@@ -12,13 +12,12 @@ pub use place::broken_word;
 pub use place::defines_again;
 pub use place::empty;
 pub use place::record_fits;
-pub use place::same_place;
 pub use place::same_words;
 pub use place::start_words;
 pub use place::with_defined;
 pub use rule::below;
-pub use rule::defines;
 pub use rule::holds;
+pub use rule::in_million;
 pub use rule::in_range;
 pub use rule::magnitude;
 pub use rule::next_word;

@@ -18,6 +18,7 @@ ghost use lib.IntN.{natAbs};
 ghost use lib.Signed.{mag};
 ghost use Rattle.constraint.specs.Ticks.{bits};
 ghost use Rattle.constraint.specs.Meaning as m;
+ghost use Rattle.constraint.specs.Million.{inMillion};
 
 // w > 0.
 fn above(w: Word) -> bool
@@ -244,6 +245,23 @@ pub fn in_range(constraint: Constraint, w: Word) -> bool
     (s.low <= w.0) & (w.0 <= s.high)
 }
 
+// Whether the record's word is within its million, either way: of a gap and a lead; no other counter has a million to leave. The word is
+// looked at before the form.
+pub fn in_million(constraint: Constraint, w: Word) -> bool
+    ensures { λ r. ⌜ r ≡ inMillion constraint w ⌝ }
+{
+    if (-1000000 <= w.0) & (w.0 <= 1000000) {
+        return true;
+    }
+    let kind = constraint.kind;
+    let counter = counter_of(kind);
+    match counter {
+        Counter::Gap => false,
+        Counter::Lead => false,
+        _ => true,
+    }
+}
+
 // Two clocks below the clock count, and not one twice.
 fn pair_fits(clocks: u8, x: u8, y: u8) -> bool
     ensures { λ r. ⌜ r ≡ m.clocksFit clocks (x ∷ y ∷ []) ⌝ }
@@ -301,17 +319,5 @@ pub fn well_formed(clocks: u8, constraint: Constraint) -> bool
             constraint.defined,
         )
             & number,
-    }
-}
-
-// Whether the record defines clock i.
-pub fn defines(constraint: Constraint, i: u8) -> bool
-    ensures { λ r. ⌜ r ≡ m.defines constraint i ⌝ }
-{
-    let kind = constraint.kind;
-    match kind {
-        Kind::Empty => false,
-        Kind::Relates(_) => false,
-        Kind::Defines(_) => i == constraint.defined,
     }
 }

@@ -1,2 +1,2 @@
-pub mod MillionLaws
+pub mod AnswerLaws
 pub mod StepLaws

@@ -9,8 +9,9 @@ use native.Mathlib.Omega.{arith}
 use lib.ListN.{length, drop, getD, set}
 use lib.Seq.{drop-cons}
 use Rattle.limit.specs.declared.Place.{Place}
-use Rattle.constraint.specs.Lists.{at, empty, slots, firstOut, brokenWord}
+use Rattle.constraint.specs.Lists.{at, empty, slots, firstNot, firstOut, brokenWord}
 use Rattle.constraint.specs.Meaning.{holds, nextWord, inRange}
+use Rattle.constraint.specs.Million.{firstPast}
 use Rattle.constraint.specs.Ticks.{Ticks, none}
 use Rattle.constraint.specs.declared.Broken.{Broken}
 use Rattle.constraint.specs.declared.Broken.the-variants.{Nowhere, At}
@@ -19,56 +20,32 @@ use Rattle.constraint.specs.declared.Constraint.{Constraint}
 use Rattle.constraint.specs.declared.Word.{Word}
 use Rattle.constraint.proofs.Demand3.{nowhere}
 use Rattle.constraint.proofs.Laws.{holds-none, next-none}
-use Rattle.constraint.proofs.Walk.{getD-any, slots-cons, slots-done}
-use Rattle.judging.specs.Million.{inMillion, firstPast}
+use Rattle.constraint.proofs.MillionLaws.{range-is-million}
+use Rattle.constraint.proofs.Slots.{getD-any, slots-cons, slots-done, slot-in-range}
 use Rattle.judging.specs.Step.{firstFailing, moved, handedBack, judged}
 use Rattle.judging.specs.declared.Judged.{Judged}
 use Rattle.judging.specs.declared.Outcome.{Outcome}
 use Rattle.judging.specs.declared.Outcome.the-variants.{Held, Failed, PastMillion}
 
--- ---- the first record that fails a test with its word
+-- ---- a turn of the loop that looks for the first record that does not pass a test
 
--- first finds it, the first of the records having the place i
-pub record Finds (test : Constraint → Word → Bool) (first : (i : ℕ) → List Constraint → List Word → Broken) : Type 0 where
-  pub at-end : (i : ℕ) (ws : List Word) → first i [] ws ≡ Nowhere
-  pub at-one : (i : ℕ) (r : Constraint) (rs : List Constraint) (w : Word) (ws : List Word) → first i (r ∷ rs) (w ∷ ws) ≡ cond (test r w) (first (suc i) rs ws) (at i)
-
--- the test being that it holds, and that its word is in its million
-pub finds-failing : (F : Ticks) → Finds (λ r w. holds r w F) (firstFailing F)
-finds-failing F = record { at-end = λ i ws. refl; at-one = λ i r rs w ws. refl }
-
-pub finds-past : Finds inMillion firstPast
-finds-past = record { at-end = λ i ws. refl; at-one = λ i r rs w ws. refl }
-
-module _ {test : Constraint → Word → Bool} {first : (i : ℕ) → List Constraint → List Word → Broken} (finds : Finds test first) (n : ℕ) (rs : List Constraint) (ws : List Word) (i : ℕ) where
-  pub none-fails : n ≤ i → first (i + 1) (drop i (slots n rs)) (drop i ws) ≡ Nowhere
-  none-fails h = rw (slots-done n rs i h) (finds .at-end (i + 1) (drop i ws))
+module _ (test : Constraint → Word → Bool) (n : ℕ) (rs : List Constraint) (ws : List Word) (i : ℕ) where
+  pub first-done : n ≤ i → firstNot test (i + 1) (drop i (slots n rs)) (drop i ws) ≡ Nowhere
+  first-done h = rw (slots-done n rs i h)
 
   module _ (d : Constraint) (v : Word) (more : i < n) (slot : i < length rs) (inside : i < length ws) where
-    test-turn :
-        first (i + 1) (drop i (slots n rs)) (drop i ws)
-        ≡ cond (test (getD rs i d) (getD ws i v)) (first (i + 1 + 1) (drop (i + 1) (slots n rs)) (drop (i + 1) ws)) (at (i + 1))
-    test-turn = rw (slots-cons n rs i more, getD-any rs i empty d slot, drop-cons ws i v inside, add-one (i + 1), add-one i) (finds .at-one _ _ _ _ _)
+    turn :
+        firstNot test (i + 1) (drop i (slots n rs)) (drop i ws)
+        ≡ cond (test (getD rs i d) (getD ws i v)) (firstNot test (i + 1 + 1) (drop (i + 1) (slots n rs)) (drop (i + 1) ws)) (at (i + 1))
+    turn = rw (slots-cons n rs i more, getD-any rs i empty d slot, drop-cons ws i v inside, add-one (i + 1), add-one i)
 
-    pub fails : test (getD rs i d) (getD ws i v) ≡ false → first (i + 1) (drop i (slots n rs)) (drop i ws) ≡ at (i + 1)
-    fails e = test-turn ∙ rw e
+    pub first-stop : test (getD rs i d) (getD ws i v) ≡ false → firstNot test (i + 1) (drop i (slots n rs)) (drop i ws) ≡ at (i + 1)
+    first-stop e = turn ∙ rw e
 
-    pub not-fails :
+    pub first-on :
         test (getD rs i d) (getD ws i v) ≡ true
-        → first (i + 1) (drop i (slots n rs)) (drop i ws) ≡ first (i + 1 + 1) (drop (i + 1) (slots n rs)) (drop (i + 1) ws)
-    not-fails e = test-turn ∙ rw e
-
--- ---- words that limit 60 lets pass
-
-slot-in-range :
-    (k n : ℕ) (rs : List Constraint) (ws : List Word) (i : ℕ) (d : Constraint) (v : Word)
-    → firstOut k (slots n rs) ws ≡ Nowhere → i < n → i < length rs → i < length ws → inRange (getD rs i d) (getD ws i v) ≡ true
-slot-in-range k zero rs ws i d v e more slot inside = absurd (omega arith)
-slot-in-range k (suc n) [] ws i d v e more slot inside = absurd (omega arith)
-slot-in-range k (suc n) (r ∷ rs) [] i d v e more slot inside = absurd (omega arith)
-slot-in-range k (suc n) (r ∷ rs) (w ∷ ws) zero d v e more slot inside = nowhere (inRange r w) _ k e .0
-slot-in-range k (suc n) (r ∷ rs) (w ∷ ws) (suc i) d v e more slot inside =
-    slot-in-range (suc k) n rs ws i d v (nowhere (inRange r w) _ k e .1) (omega arith) (omega arith) (omega arith)
+        → firstNot test (i + 1) (drop i (slots n rs)) (drop i ws) ≡ firstNot test (i + 1 + 1) (drop (i + 1) (slots n rs)) (drop (i + 1) ws)
+    first-on e = turn ∙ rw e
 
 -- ---- the words after the step
 
@@ -104,6 +81,17 @@ module _
   pub moved-turn : (w : Word) → w ≡ nextWord (getD rs i d) (getD words i v) F → set words i w ≡ moved F (slots (i + 1) rs) ws
   moved-turn w q = rw (q, old-word, e, add-one i) (one-more-moved F rs ws i d v slot inside)
 
+-- ---- limit 60 and the million: where every record held from words in range, the moved words out of range are those past their million
+
+pub out-is-past : (F : Ticks) (i : ℕ) (rs : List Constraint) (ws : List Word) → firstOut i rs ws ≡ Nowhere → firstFailing F i rs ws ≡ Nowhere
+    → firstOut i rs (moved F rs ws) ≡ firstPast i rs (moved F rs ws)
+out-is-past F i [] ws e h = e
+out-is-past F i (r ∷ rs) [] e h = refl
+out-is-past F i (r ∷ rs) (w ∷ ws) e h =
+    let p = nowhere (inRange r w) _ i e in
+    let q = nowhere (holds r w F) _ i h in
+    rw (range-is-million r w F (p .0) (q .0), out-is-past F (suc i) rs ws (p .1) (q .1))
+
 -- ---- the three outcomes
 
 module _ (stop : Place → Outcome) (b : Broken) (c : Configuration) (j : Judged) where
@@ -119,30 +107,31 @@ module _ (F : Ticks) (rs : List Constraint) (c : Configuration) where
   judged-failed p e = stops Failed _ c _ p e
 
   module _ (after : Configuration) (m : after .words ≡ moved F rs (c .words)) (e : firstFailing F 1 rs (c .words) ≡ Nowhere) where
-    pub judged-past : (p : Place) → brokenWord rs (after .words) ≡ At p → judged F rs c ≡ record { outcome = PastMillion p; configuration = c }
+    pub judged-past : (p : Place) → firstPast 1 rs (after .words) ≡ At p → judged F rs c ≡ record { outcome = PastMillion p; configuration = c }
     unfolding judged
     judged-past p q = passes Failed _ c _ e ∙ stops PastMillion _ c _ p (rw m at q)
 
-    pub judged-held : brokenWord rs (after .words) ≡ Nowhere → judged F rs c ≡ record { outcome = Held; configuration = after }
+    pub judged-held : firstPast 1 rs (after .words) ≡ Nowhere → judged F rs c ≡ record { outcome = Held; configuration = after }
     unfolding judged
     judged-held q = passes Failed _ c _ e ∙ passes PastMillion _ c _ (rw m at q) ∙ rw (← m)
 
-  -- a step that is not taken leaves the words, and one that is taken has them moved, in range
-  judged-words : (P : List Word → Type 0) → P (c .words) → (brokenWord rs (moved F rs (c .words)) ≡ Nowhere → P (moved F rs (c .words))) → P (judged F rs c .configuration .words)
+  -- a step that is not taken leaves the words, and one that is taken has them moved, once every record held and no word left its million
+  judged-words : (P : List Word → Type 0) → P (c .words)
+      → (firstFailing F 1 rs (c .words) ≡ Nowhere → firstPast 1 rs (moved F rs (c .words)) ≡ Nowhere → P (moved F rs (c .words))) → P (judged F rs c .configuration .words)
   unfolding judged
-  judged-words P stays moves = go (firstFailing F 1 rs (c .words)) (brokenWord rs (moved F rs (c .words))) refl
+  judged-words P stays moves = go (firstFailing F 1 rs (c .words)) (firstPast 1 rs (moved F rs (c .words))) refl refl
     where
-      go : (f b : Broken) → brokenWord rs (moved F rs (c .words)) ≡ b
+      go : (f b : Broken) → firstFailing F 1 rs (c .words) ≡ f → firstPast 1 rs (moved F rs (c .words)) ≡ b
           → P (handedBack Failed f c (handedBack PastMillion b c (record { outcome = Held; configuration = record { words = moved F rs (c .words) } })) .configuration .words)
-      go (At p) b e = stays
-      go Nowhere (At p) e = stays
-      go Nowhere Nowhere e = moves e
+      go (At p) b h e = stays
+      go Nowhere (At p) h e = stays
+      go Nowhere Nowhere h e = moves h e
 
   pub judged-in-range : brokenWord rs (c .words) ≡ Nowhere → brokenWord rs (judged F rs c .configuration .words) ≡ Nowhere
-  judged-in-range e = judged-words (λ ws. brokenWord rs ws ≡ Nowhere) e (λ q. q)
+  judged-in-range e = judged-words (λ ws. brokenWord rs ws ≡ Nowhere) e (λ h q. out-is-past F 1 rs (c .words) e h ∙ q)
 
   pub judged-length : length (judged F rs c .configuration .words) ≡ length (c .words)
-  judged-length = judged-words (λ ws. length ws ≡ length (c .words)) refl (λ q. length-moved F rs (c .words))
+  judged-length = judged-words (λ ws. length ws ≡ length (c .words)) refl (λ h q. length-moved F rs (c .words))
 
 -- ---- the empty tick set
 
@@ -156,5 +145,10 @@ moved-none [] ws = refl
 moved-none (r ∷ rs) [] = refl
 moved-none (r ∷ rs) (w ∷ ws) = rw (next-none r w, moved-none rs ws)
 
+past-none : (i : ℕ) (rs : List Constraint) (ws : List Word) → firstOut i rs ws ≡ Nowhere → firstPast i rs ws ≡ Nowhere
+past-none i rs ws e =
+    let m = moved-none rs ws in
+    rw m at (sym (out-is-past none i rs ws e (fails-none i rs ws))) ∙ e
+
 pub judged-none : (rs : List Constraint) (c : Configuration) → brokenWord rs (c .words) ≡ Nowhere → judged none rs c ≡ record { outcome = Held; configuration = c }
-judged-none rs c e = judged-held none rs c c (sym (moved-none rs (c .words))) (fails-none 1 rs (c .words)) e
+judged-none rs c e = judged-held none rs c c (sym (moved-none rs (c .words))) (fails-none 1 rs (c .words)) (past-none 1 rs (c .words) e)

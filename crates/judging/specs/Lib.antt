@@ -1,3 +1,4 @@
-pub mod Million
+pub mod Answers
+pub mod Code
 pub mod Single
 pub mod Step

@@ -1,5 +1,6 @@
 -- The single step on any list of records, clock count, configuration and tick set: document 01, "Where each refusal is checked", its last
 -- three rows. Assumes nothing.
+use mathlib.Core.Path.{_≡_}
 use mathlib.Core.Bool.{cond}
 use mathlib.Core.List.{List}
 use Prim.Native.Nat.{ℕ, _^_}
@@ -32,6 +33,10 @@ abbrev pub stepSaid : StepAnswer → StepSaid
 stepSaid Accepted = accepted
 stepSaid (Violated p) = violated (p .0)
 stepSaid (Refused r) = refused (numberOf (r .limit)) (r .place .0)
+
+-- the claim: no two values of the answer in code have one meaning
+abbrev pub StepSaidDetermines : Type 0
+StepSaidDetermines = (x y : StepAnswer) → stepSaid x ≡ stepSaid y → x ≡ y
 
 pub record StepTold : Type 0 where
   pub said : StepSaid

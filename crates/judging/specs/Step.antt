@@ -1,11 +1,11 @@
 -- One step of all records: document 01, "Table text", "Where each refusal is checked" and "Tempting, and wrong". Every record is judged,
 -- and every word moved, with the words from before the step. Assumes nothing.
-use mathlib.Core.Bool.{cond}
 use mathlib.Core.List.{List, [], _∷_}
-use Prim.Native.Nat.{ℕ, suc}
+use Prim.Native.Nat.{ℕ}
 use Rattle.limit.specs.declared.Place.{Place}
-use Rattle.constraint.specs.Lists.{at, brokenWord}
+use Rattle.constraint.specs.Lists.{firstNot}
 use Rattle.constraint.specs.Meaning.{holds, nextWord}
+use Rattle.constraint.specs.Million.{firstPast}
 use Rattle.constraint.specs.Ticks.{Ticks}
 use Rattle.constraint.specs.declared.Broken.{Broken}
 use Rattle.constraint.specs.declared.Broken.the-variants.{Nowhere, At}
@@ -18,9 +18,7 @@ use Rattle.judging.specs.declared.Outcome.the-variants.{Held, Failed, Pa
 
 -- the first record that does not hold, the first of these having the place i
 abbrev pub firstFailing : Ticks → (i : ℕ) → List Constraint → List Word → Broken
-firstFailing F i [] ws = Nowhere
-firstFailing F i (r ∷ rs) [] = Nowhere
-firstFailing F i (r ∷ rs) (w ∷ ws) = cond (holds r w F) (firstFailing F (suc i) rs ws) (at i)
+firstFailing F = firstNot (λ r w. holds r w F)
 
 -- every word after the step; those beyond the records stay
 abbrev pub moved : Ticks → List Constraint → List Word → List Word
@@ -32,9 +30,9 @@ abbrev pub handedBack : (Place → Outcome) → Broken → Configuration → Jud
 handedBack stop Nowhere c j = j
 handedBack stop (At p) c j = record { outcome = stop p; configuration = c }
 
--- the first record that fails; 51, after every constraint held, the first whose word would leave its range; else every word moves
+-- the first record that fails; 51, after every constraint held, the first whose word would leave its million; else every word moves
 unfoldable pub judged : Ticks → List Constraint → Configuration → Judged
 judged F rs c =
     handedBack Failed (firstFailing F 1 rs (c .words)) c
-    (handedBack PastMillion (brokenWord rs (moved F rs (c .words))) c
+    (handedBack PastMillion (firstPast 1 rs (moved F rs (c .words))) c
     (record { outcome = Held; configuration = record { words = moved F rs (c .words) } }))

@@ -1,20 +1,25 @@
 -- The three demands: 2 from how the steps of a recording split into the accepted ones and what ends them; 1 from that split, and from the order
 -- of the checks of the calls on records; 3 as `constraint` has it. Assumes nothing.
-use mathlib.Core.Path.{_≡_, refl, sym, ap, _∙_}
+use mathlib.Core.Path.{_≡_, refl, sym, ap, ap₂, _∙_}
 use mathlib.Core.List.{List, [], _∷_, _++_, append-nil}
 use Prim.Native.Nat.{ℕ}
 use lib.ListN.{length}
-use Rattle.constraint.proofs.Demand3 as place
+use Rattle.limit.specs.Limit.{numberOf}
+use Rattle.limit.proofs.Numbers.{refusals-differ}
+use Rattle.constraint.proofs.Demand3.{demand-3}
+use Rattle.constraint.proofs.PlaceRefusals.{same-place-refused}
 use Rattle.table.specs.Reader as table
 use Rattle.table.proofs.Passes.{every-table-passes}
 use Rattle.recording.specs.Body.{Ending, ended, refusedAt}
 use Rattle.recording.specs.declared.Step.{Step}
+use Rattle.judging.proofs.AnswerLaws.{every-step-answers}
 use Rattle.run.specs.Demands.{Demand1, Demand2, Demand3}
-use Rattle.run.specs.Judgement.{Accepted, Ends, at-end, fails, past}
+use Rattle.run.specs.Judgement.{Accepted as AllAccepted, Ends, at-end, fails, past, after}
 use Rattle.run.specs.Refusals.{RunRefuses, by-table, by-reading, by-million}
-use Rattle.run.specs.Run.{Said, accepted, violated, refused, endingSaid, ran, runTable, withTable, runOf, zeros, tableOf, readingBy}
-use Rattle.run.proofs.JudgingLaws.{after, Split, split, judged-split}
-use Rattle.run.proofs.RefusalLaws.{step-refused, step-given-back, same-place-refused}
+use Rattle.run.specs.Run.{Said, SaidDetermines, accepted, violated, refused, endingSaid, ran, runTable, withTable, runOf, zeros, tableOf, readingBy}
+use Rattle.run.specs.declared.Verdict.the-variants.{Accepted, Violated, Refused}
+use Rattle.run.proofs.JudgingLaws.{Split, split, judged-split}
+use Rattle.run.proofs.StepByStep.{single-steps}
 
 -- ---- the run of a table that is refused, and of one that is read
 
@@ -28,7 +33,7 @@ module _ (t r : List ℕ) where
   run-read e = rw e
 
   run-split : table.readTable t .said ≡ table.read → (x : Split (tableOf t .records) (readingBy t r .ending) (readingBy t r .steps))
-      → runOf t r ≡ record { said = x .said; steps = length (x .accepted); constraints = tableOf t .count; configuration = after (tableOf t .records) (x .accepted) }
+      → runOf t r ≡ record { said = x .said; steps = length (x .accepted); constraints = tableOf t .count; configuration = after (tableOf t) (x .accepted) }
   run-split e x = run-read e ∙ ap (ran (tableOf t .count)) (judged-split (tableOf t) (every-table-passes t e) (readingBy t r .ending) (readingBy t r .steps) x)
 
 -- ---- demand 2
@@ -36,7 +41,17 @@ module _ (t r : List ℕ) where
 pub demand-2 : Demand2
 demand-2 t r e =
     let x = split (tableOf t .records) (readingBy t r .ending) (readingBy t r .steps) in
-    rw (run-split t r e x) (record { accepted = x .accepted; left = x .left; steps = x .place; held = x .held; ends = x .ends; count = refl; constraints = refl; words = refl })
+    rw (run-split t r e x) (record {
+      accepted = x .accepted;
+      left = x .left;
+      steps = x .place;
+      held = x .held;
+      ends = x .ends;
+      count = refl;
+      constraints = refl;
+      words = refl;
+      single = single-steps t r e (x .accepted) (x .left) (readingBy t r .ending) (x .said) (x .held) (x .place) (x .ends);
+    })
 
 -- ---- demand 1
 
@@ -53,11 +68,11 @@ Refusing t r (refused n p) = RunRefuses t r n p
 
 module _ (t r : List ℕ) where
   module _ (e : table.readTable t .said ≡ table.read) where
-    ending-refuses : Accepted (tableOf t .records) (readingBy t r .steps) → (x : Ending) → readingBy t r .ending ≡ x → Refusing t r (endingSaid x)
+    ending-refuses : AllAccepted (tableOf t .records) (readingBy t r .steps) → (x : Ending) → readingBy t r .ending ≡ x → Refusing t r (endingSaid x)
     ending-refuses h ended q = tt
     ending-refuses h (refusedAt l p) q = by-reading e q h
 
-    end-refuses : {ss left : List Step} {said : Said} → readingBy t r .steps ≡ ss ++ left → Accepted (tableOf t .records) ss → Ends (tableOf t .records) (readingBy t r .ending) ss left said → Refusing t r said
+    end-refuses : {ss left : List Step} {said : Said} → readingBy t r .steps ≡ ss ++ left → AllAccepted (tableOf t .records) ss → Ends (tableOf t .records) (readingBy t r .ending) ss left said → Refusing t r said
     end-refuses place h at-end = ending-refuses (rw (place, append-nil) h) (readingBy t r .ending) refl
     end-refuses place h (fails f) = tt
     end-refuses place h (past hold f) = by-million _ _ _ _ e place h hold f
@@ -73,12 +88,30 @@ pub demand-1 : Demand1
 demand-1 = record {
   run-refused = λ t r n p. (λ e. rw e at (run-refuses t r), when-refused t r);
   table-refused = run-refused;
-  step-refused = step-refused;
-  step-given-back = step-given-back;
+  step-answers = every-step-answers;
   same-place-refused = same-place-refused;
 }
 
 -- ---- demand 3
 
-pub demand-3 : Demand3
-demand-3 = place.demand-3
+pub demand-3-holds : Demand3
+demand-3-holds = demand-3
+
+-- ---- a verdict in document 01's words is that of one value alone
+
+pub said-determines : SaidDetermines
+said-determines Accepted Accepted e = refl
+said-determines Accepted (Violated l t) e = cc
+said-determines Accepted (Refused s) e = cc
+said-determines (Violated l t) Accepted e = cc
+said-determines (Violated l t) (Violated k u) e =
+    let h : l .0 ≡ k .0 = cc in
+    let i : t .0 ≡ u .0 = cc in
+    ap₂ (λ (x y : ℕ). Violated (record { 0 = x }) (record { 0 = y })) h i
+said-determines (Violated l t) (Refused s) e = cc
+said-determines (Refused r) Accepted e = cc
+said-determines (Refused r) (Violated l t) e = cc
+said-determines (Refused r) (Refused s) e =
+    let n : numberOf (r .limit) ≡ numberOf (s .limit) = cc in
+    let p : r .place .0 ≡ s .place .0 = cc in
+    ap Refused (refusals-differ r s n p)

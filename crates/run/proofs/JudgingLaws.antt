@@ -9,7 +9,7 @@ use native.Mathlib.Omega.{arith}
 use lib.ListN.{length, getD, length-append}
 use lib.Seq.{append-snoc, getD-append-seam}
 use Rattle.limit.specs.declared.Place.{Place}
-use Rattle.constraint.specs.Lists.{at, empty, slots, brokenWord}
+use Rattle.constraint.specs.Lists.{at, empty, slots, firstNot, brokenWord}
 use Rattle.constraint.specs.Meaning.{holds, nextWord}
 use Rattle.constraint.specs.Ticks.{Ticks, bits}
 use Rattle.constraint.specs.declared.Broken.{Broken}
@@ -17,23 +17,23 @@ use Rattle.constraint.specs.declared.Broken.the-variants.{Nowhere, At}
 use Rattle.constraint.specs.declared.Configuration.{Configuration}
 use Rattle.constraint.specs.declared.Constraint.{Constraint}
 use Rattle.constraint.specs.declared.Word.{Word}
+use Rattle.constraint.proofs.Slots.{length-slots, getD-slots}
 use Rattle.table.specs.Reader as table
 use Rattle.grammar.specs.declared.Table.{Table}
 use Rattle.recording.specs.Body.{Ending}
 use Rattle.recording.specs.declared.Step.{Step}
-use Rattle.run.specs.Judgement.{movedBy, wordAfter, HoldsAt, StaysAt, Every, none, more, FirstWithout, Accepted, Ends, at-end, fails, past}
-use Rattle.judging.specs.Million.{inMillion, firstPast}
+use Rattle.run.specs.Judgement.{movedBy, wordAfter, HoldsAt, StaysAt, Every, none, more, FirstWithout, Accepted, Ends, at-end, fails, past, after}
+use Rattle.constraint.specs.Million.{inMillion, firstPast}
 use Rattle.run.specs.Run.{Said, violated, endingSaid, lineOf, afterStep, judgeAll, recordsOf, startOf}
 use Rattle.judging.specs.Step.{firstFailing, moved, judged}
 use Rattle.judging.specs.declared.Outcome.the-variants.{Held, Failed, PastMillion}
-use Rattle.judging.proofs.MillionLaws.{out-after}
-use Rattle.judging.proofs.StepLaws.{Finds, finds-failing, finds-past, judged-failed, judged-past, judged-held}
+use Rattle.judging.proofs.StepLaws.{out-is-past, judged-failed, judged-past, judged-held}
 
 -- ---- the first record that does not pass a test, the first of these having the place i
 
-abbrev firstNot : (Constraint → Bool) → (i : ℕ) → List Constraint → Broken
-firstNot t i [] = Nowhere
-firstNot t i (r ∷ rs) = cond (t r) (firstNot t (suc i) rs) (at i)
+abbrev firstSlot : (Constraint → Bool) → (i : ℕ) → List Constraint → Broken
+firstSlot t i [] = Nowhere
+firstSlot t i (r ∷ rs) = cond (t r) (firstSlot t (suc i) rs) (at i)
 
 stops-at : (x : Bool) (b : Broken) (i : ℕ) → (x ≡ true → ⊥) → cond x b (at i) ≡ at (i + 0)
 stops-at true b i n = absurd (n refl)
@@ -46,11 +46,11 @@ module _ (t : Constraint → Bool) where
   abbrev Passes : Constraint → Type 0
   Passes r = t r ≡ true
 
-  every-passes : (i : ℕ) {rs : List Constraint} → Every Passes rs → firstNot t i rs ≡ Nowhere
+  every-passes : (i : ℕ) {rs : List Constraint} → Every Passes rs → firstSlot t i rs ≡ Nowhere
   every-passes i none = refl
   every-passes i (more p ps) = rw p (every-passes (suc i) ps)
 
-  first-at : (i : ℕ) {earlier : List Constraint} (r : Constraint) (later : List Constraint) → Every Passes earlier → (Passes r → ⊥) → firstNot t i (earlier ++ r ∷ later) ≡ at (i + length earlier)
+  first-at : (i : ℕ) {earlier : List Constraint} (r : Constraint) (later : List Constraint) → Every Passes earlier → (Passes r → ⊥) → firstSlot t i (earlier ++ r ∷ later) ≡ at (i + length earlier)
   first-at i r later none n = stops-at (t r) _ i n
   first-at i r later (more p ps) n = rw p (first-at (suc i) r later ps n ∙ ap at (omega arith))
 
@@ -63,37 +63,23 @@ module _ (t : Constraint → Bool) where
       go true e (inr (q, f)) = inr (q, record { earlier = r ∷ f .earlier; later = f .later; place = ap (λ l. r ∷ l) (f .place); before = more e (f .before); here = f .here })
       go false e s = inr (r, record { earlier = []; later = rs; place = refl; before = none; here = λ h. false≢true (sym e ∙ h) })
 
-abbrev placeOf : {P : Constraint → Type 0} {rs : List Constraint} {r : Constraint} → FirstWithout P rs r → Place
+abbrev pub placeOf : {P : Constraint → Type 0} {rs : List Constraint} {r : Constraint} → FirstWithout P rs r → Place
 placeOf f = record { 0 = 1 + length (f .earlier) }
 
-first-found : (t : Constraint → Bool) {rs : List Constraint} {r : Constraint} (f : FirstWithout (Passes t) rs r) → firstNot t 1 rs ≡ At (placeOf f)
-first-found t f = ap (firstNot t 1) (f .place) ∙ first-at t 1 _ (f .later) (f .before) (f .here)
+first-found : (t : Constraint → Bool) {rs : List Constraint} {r : Constraint} (f : FirstWithout (Passes t) rs r) → firstSlot t 1 rs ≡ At (placeOf f)
+first-found t f = ap (firstSlot t 1) (f .place) ∙ first-at t 1 _ (f .later) (f .before) (f .here)
 
 -- ---- the slots behind the records
-
-length-slots : (n : ℕ) (rs : List Constraint) → length (slots n rs) ≡ n
-length-slots zero rs = refl
-length-slots (suc n) [] = ap suc (length-slots n [])
-length-slots (suc n) (r ∷ rs) = ap suc (length-slots n rs)
-
--- the same record at every place
-getD-slots : (n : ℕ) (rs : List Constraint) (i : ℕ) → length rs ≤ n → getD (slots n rs) i empty ≡ getD rs i empty
-getD-slots zero [] i h = refl
-getD-slots zero (r ∷ rs) i h = absurd (omega arith)
-getD-slots (suc n) [] zero h = refl
-getD-slots (suc n) [] (suc i) h = getD-slots n [] i (omega arith)
-getD-slots (suc n) (r ∷ rs) zero h = refl
-getD-slots (suc n) (r ∷ rs) (suc i) h = getD-slots n rs i (omega arith)
 
 -- with the word f r of each slot r
 module _ (f : Constraint → Word) where
   -- of a test that an empty slot passes
-  found-slot : {test : Constraint → Word → Bool} {first : (i : ℕ) → List Constraint → List Word → Broken} → Finds test first → ((w : Word) → test empty w ≡ true)
-      → (i n : ℕ) (rs : List Constraint) → length rs ≤ n → first i rs (map f (slots n rs)) ≡ firstNot (λ r. test r (f r)) i (slots n rs)
-  found-slot finds e i zero [] h = finds .at-end i []
-  found-slot finds e i zero (r ∷ rs) h = absurd (omega arith)
-  found-slot finds e i (suc n) [] h = rw (e (f empty)) (finds .at-end i _ ∙ sym (finds .at-end (suc i) _) ∙ found-slot finds e (suc i) n [] (omega arith))
-  found-slot finds e i (suc n) (r ∷ rs) h = finds .at-one i r rs _ _ ∙ rw (found-slot finds e (suc i) n rs (omega arith))
+  found-slot : (test : Constraint → Word → Bool) → ((w : Word) → test empty w ≡ true)
+      → (i n : ℕ) (rs : List Constraint) → length rs ≤ n → firstNot test i rs (map f (slots n rs)) ≡ firstSlot (λ r. test r (f r)) i (slots n rs)
+  found-slot test e i zero [] h = refl
+  found-slot test e i zero (r ∷ rs) h = absurd (omega arith)
+  found-slot test e i (suc n) [] h = rw (e (f empty)) (found-slot test e (suc i) n [] (omega arith))
+  found-slot test e i (suc n) (r ∷ rs) h = rw (found-slot test e (suc i) n rs (omega arith))
 
   moved-slots : (F : Ticks) (g : Constraint → Word) → ((r : Constraint) → g r ≡ nextWord r (f r) F) → (n : ℕ) (rs : List Constraint) → length rs ≤ n → map g (slots n rs) ≡ moved F rs (map f (slots n rs))
   moved-slots F g e zero [] h = refl
@@ -104,8 +90,8 @@ module _ (f : Constraint → Word) where
 -- ---- a step after others, ss
 
 -- the configuration after them
-abbrev pub after : List Constraint → List Step → Configuration
-after all ss = record { words = map (wordAfter ss) all }
+abbrev afterAll : List Constraint → List Step → Configuration
+afterAll all ss = record { words = map (wordAfter ss) all }
 
 moved-more : (r : Constraint) (w : Word) (ss : List Step) (s : Step) → movedBy r w (ss ++ s ∷ []) ≡ nextWord r (movedBy r w ss) (bits (s .ticks))
 moved-more r w [] s = refl
@@ -113,8 +99,8 @@ moved-more r w (q ∷ ss) s = moved-more r (nextWord r w (bits (q .ticks))) ss s
 
 -- accepted steps leave words in range, and judging goes on from there
 record Reached (rs all : List Constraint) (ss : List Step) : Type 0 where
-  inside : brokenWord rs (after all ss .words) ≡ Nowhere
-  judges : (e : Ending) (left : List Step) → judgeAll rs 0 (after all []) (ss ++ left) e ≡ judgeAll rs (length ss) (after all ss) left e
+  inside : brokenWord rs (afterAll all ss .words) ≡ Nowhere
+  judges : (e : Ending) (left : List Step) → judgeAll rs 0 (afterAll all []) (ss ++ left) e ≡ judgeAll rs (length ss) (afterAll all ss) left e
 
 -- all: every slot, those behind the records rs being empty
 module _ (n : ℕ) (rs all : List Constraint) (room : length rs ≤ n) (unused : all ≡ slots n rs) where
@@ -122,35 +108,35 @@ module _ (n : ℕ) (rs all : List Constraint) (room : length rs ≤ n) (unused :
     abbrev F : Ticks
     F = bits (s .ticks)
 
-    all-moved : after all (ss ++ s ∷ []) .words ≡ moved F rs (after all ss .words)
+    all-moved : afterAll all (ss ++ s ∷ []) .words ≡ moved F rs (afterAll all ss .words)
     all-moved = rw unused (moved-slots (wordAfter ss) F _ (λ r. moved-more r _ ss s) n rs room)
 
-    fails-first : firstFailing F 1 rs (after all ss .words) ≡ firstNot (λ r. holds r (wordAfter ss r) F) 1 all
-    fails-first = rw unused (found-slot (wordAfter ss) (finds-failing F) (λ w. refl) 1 n rs room)
+    fails-first : firstFailing F 1 rs (afterAll all ss .words) ≡ firstSlot (λ r. holds r (wordAfter ss r) F) 1 all
+    fails-first = rw unused (found-slot (wordAfter ss) (λ r w. holds r w F) (λ w. refl) 1 n rs room)
 
-    past-first : firstPast 1 rs (after all (ss ++ s ∷ []) .words) ≡ firstNot (λ r. inMillion r (wordAfter (ss ++ s ∷ []) r)) 1 all
-    past-first = rw unused (found-slot (wordAfter (ss ++ s ∷ [])) finds-past (λ w. refl) 1 n rs room)
+    past-first : firstPast 1 rs (afterAll all (ss ++ s ∷ []) .words) ≡ firstSlot (λ r. inMillion r (wordAfter (ss ++ s ∷ []) r)) 1 all
+    past-first = rw unused (found-slot (wordAfter (ss ++ s ∷ [])) inMillion (λ w. refl) 1 n rs room)
 
-    step-fails : {r : Constraint} (f : FirstWithout (HoldsAt ss s) all r) → judged F rs (after all ss) ≡ record { outcome = Failed (placeOf f); configuration = after all ss }
-    step-fails f = judged-failed _ rs (after all ss) (placeOf f) (fails-first ∙ first-found _ f)
+    step-fails : {r : Constraint} (f : FirstWithout (HoldsAt ss s) all r) → judged F rs (afterAll all ss) ≡ record { outcome = Failed (placeOf f); configuration = afterAll all ss }
+    step-fails f = judged-failed _ rs (afterAll all ss) (placeOf f) (fails-first ∙ first-found _ f)
 
     -- from words in range, once every record held
-    module _ (inside : brokenWord rs (after all ss .words) ≡ Nowhere) (hold : Every (HoldsAt ss s) all) where
-      none-fails : firstFailing F 1 rs (after all ss .words) ≡ Nowhere
+    module _ (inside : brokenWord rs (afterAll all ss .words) ≡ Nowhere) (hold : Every (HoldsAt ss s) all) where
+      none-fails : firstFailing F 1 rs (afterAll all ss .words) ≡ Nowhere
       none-fails = fails-first ∙ every-passes _ 1 hold
 
-      out-first : brokenWord rs (after all (ss ++ s ∷ []) .words) ≡ firstNot (λ r. inMillion r (wordAfter (ss ++ s ∷ []) r)) 1 all
-      out-first = out-after F rs (after all ss .words) _ all-moved inside none-fails ∙ past-first
-
-      step-past : {r : Constraint} (f : FirstWithout (StaysAt ss s) all r) → judged F rs (after all ss) ≡ record { outcome = PastMillion (placeOf f); configuration = after all ss }
-      step-past f = judged-past _ rs (after all ss) (after all (ss ++ s ∷ [])) all-moved none-fails (placeOf f) (out-first ∙ first-found _ f)
+      step-past : {r : Constraint} (f : FirstWithout (StaysAt ss s) all r) → judged F rs (afterAll all ss) ≡ record { outcome = PastMillion (placeOf f); configuration = afterAll all ss }
+      step-past f = judged-past _ rs (afterAll all ss) (afterAll all (ss ++ s ∷ [])) all-moved none-fails (placeOf f) (past-first ∙ first-found _ f)
 
       module _ (stay : Every (StaysAt ss s) all) where
-        still-inside : brokenWord rs (after all (ss ++ s ∷ []) .words) ≡ Nowhere
-        still-inside = out-first ∙ every-passes _ 1 stay
+        none-past : firstPast 1 rs (afterAll all (ss ++ s ∷ []) .words) ≡ Nowhere
+        none-past = past-first ∙ every-passes _ 1 stay
 
-        step-held : judged F rs (after all ss) ≡ record { outcome = Held; configuration = after all (ss ++ s ∷ []) }
-        step-held = judged-held _ rs (after all ss) (after all (ss ++ s ∷ [])) all-moved none-fails still-inside
+        still-inside : brokenWord rs (afterAll all (ss ++ s ∷ []) .words) ≡ Nowhere
+        still-inside = rw all-moved (out-is-past F 1 rs (afterAll all ss .words) inside none-fails ∙ (rw all-moved at none-past))
+
+        step-held : judged F rs (afterAll all ss) ≡ record { outcome = Held; configuration = afterAll all (ss ++ s ∷ []) }
+        step-held = judged-held _ rs (afterAll all ss) (afterAll all (ss ++ s ∷ [])) all-moved none-fails none-past
 
   line-found : {P : Constraint → Type 0} {r : Constraint} (f : FirstWithout P all r) → lineOf rs (placeOf f) ≡ r .line .0
   line-found f =
@@ -163,7 +149,7 @@ module _ (n : ℕ) (rs all : List Constraint) (room : length rs ≤ n) (unused :
   unfolding judgeAll afterStep
   one-more ss s a hold stay = record { inside = still-inside ss s (a .inside) hold stay; judges = onward }
     where
-      onward : (e : Ending) (left : List Step) → judgeAll rs 0 (after all []) ((ss ++ s ∷ []) ++ left) e ≡ judgeAll rs (length (ss ++ s ∷ [])) (after all (ss ++ s ∷ [])) left e
+      onward : (e : Ending) (left : List Step) → judgeAll rs 0 (afterAll all []) ((ss ++ s ∷ []) ++ left) e ≡ judgeAll rs (length (ss ++ s ∷ [])) (afterAll all (ss ++ s ∷ [])) left e
       onward e left =
           let l : length (ss ++ s ∷ []) ≡ suc (length ss) = omega (arith, length-append ss (s ∷ [])) in
           rw (append-snoc, l) (a .judges e (s ∷ left) ∙ rw (step-held ss s (a .inside) hold stay))
@@ -174,11 +160,11 @@ module _ (n : ℕ) (rs all : List Constraint) (room : length rs ≤ n) (unused :
       let p = h ss qs s refl in
       rw append-snoc at (through (ss ++ s ∷ []) qs (rw append-snoc h) (one-more ss s a (p .0) (p .1)))
 
-  stops : {e : Ending} {ss left : List Step} {said : Said} → brokenWord rs (after all ss .words) ≡ Nowhere → Ends all e ss left said → (i : ℕ)
-      → judgeAll rs i (after all ss) left e ≡ record { said = said; steps = i; configuration = after all ss }
+  stops : {e : Ending} {ss left : List Step} {said : Said} → brokenWord rs (afterAll all ss .words) ≡ Nowhere → Ends all e ss left said → (i : ℕ)
+      → judgeAll rs i (afterAll all ss) left e ≡ record { said = said; steps = i; configuration = afterAll all ss }
   unfolding judgeAll afterStep
   stops inside at-end i = refl
-  stops {ss = ss} inside (fails {s} f) i = rw (step-fails ss s f) (ap (λ (l : ℕ). record { said = violated l (s .time .0); steps = i; configuration = after all ss }) (line-found f))
+  stops {ss = ss} inside (fails {s} f) i = rw (step-fails ss s f) (ap (λ (l : ℕ). record { said = violated l (s .time .0); steps = i; configuration = afterAll all ss }) (line-found f))
   stops inside (past {s} h f) i = rw (step-past _ s inside h f) refl
 
 -- ---- where a run stops
@@ -235,7 +221,7 @@ module _ (b : Table) (p : table.Passes b) where
   reached ss h = through 64 (recordsOf b) (b .records) room (p .unused) [] ss h (record { inside = p .words; judges = λ e left. refl })
 
   pub judged-split : (e : Ending) (ss : List Step) (x : Split (b .records) e ss)
-      → judgeAll (recordsOf b) 0 (startOf b) ss e ≡ record { said = x .said; steps = length (x .accepted); configuration = after (b .records) (x .accepted) }
+      → judgeAll (recordsOf b) 0 (startOf b) ss e ≡ record { said = x .said; steps = length (x .accepted); configuration = after b (x .accepted) }
   judged-split e ss x =
       let a = reached (x .accepted) (x .held) in
       ap (λ l. judgeAll (recordsOf b) 0 (startOf b) l e) (x .place)
@@ -244,3 +230,20 @@ module _ (b : Table) (p : table.Passes b) where
 
   pub accepted-in-range : (ss : List Step) → Accepted (b .records) ss → brokenWord (recordsOf b) (map (wordAfter ss) (b .records)) ≡ Nowhere
   accepted-in-range ss h = reached ss h .inside
+
+  -- a step after accepted ones: it is held; a record, the first in table order, fails; a word, the first in table order, leaves its million
+  module _ (ss : List Step) (s : Step) (h : Accepted (b .records) ss) where
+    pub judged-on : Every (HoldsAt ss s) (b .records) → Every (StaysAt ss s) (b .records)
+        → judged (bits (s .ticks)) (recordsOf b) (after b ss) ≡ record { outcome = Held; configuration = after b (ss ++ s ∷ []) }
+    judged-on hold stay = step-held 64 (recordsOf b) (b .records) room (p .unused) ss s (reached ss h .inside) hold stay
+
+    pub judged-stop : {r : Constraint} (f : FirstWithout (HoldsAt ss s) (b .records) r)
+        → judged (bits (s .ticks)) (recordsOf b) (after b ss) ≡ record { outcome = Failed (placeOf f); configuration = after b ss }
+    judged-stop f = step-fails 64 (recordsOf b) (b .records) room (p .unused) ss s f
+
+    pub judged-full : {r : Constraint} → Every (HoldsAt ss s) (b .records) → (f : FirstWithout (StaysAt ss s) (b .records) r)
+        → judged (bits (s .ticks)) (recordsOf b) (after b ss) ≡ record { outcome = PastMillion (placeOf f); configuration = after b ss }
+    judged-full hold f = step-past 64 (recordsOf b) (b .records) room (p .unused) ss s (reached ss h .inside) hold f
+
+  pub line-of-first : {P : Constraint → Type 0} {r : Constraint} (f : FirstWithout P (b .records) r) → lineOf (recordsOf b) (placeOf f) ≡ r .line .0
+  line-of-first f = line-found 64 (recordsOf b) (b .records) room (p .unused) f

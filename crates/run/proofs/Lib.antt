@@ -1,6 +1,6 @@
 pub mod Agreement
 pub mod Demands
 pub mod JudgingLaws
-pub mod RefusalLaws
 pub mod RunLaws
 pub mod SameExercise
+pub mod StepByStep

@@ -42,21 +42,6 @@ use Rattle.run.specs.declared.Verdict.{Verdict}
 use Rattle.run.specs.declared.Verdict.the-variants.{Accepted, Violated, Refused}
 use Rattle.judging.proofs.StepLaws.{judged-in-range}
 
--- ---- the record in a slot
-
-pub slot-is : (n : ℕ) (rs : List Constraint) (i : ℕ) → i < n → getD (slots n rs) i empty ≡ getD rs i empty
-slot-is zero rs i h = absurd (omega arith)
-slot-is (suc n) [] zero h = refl
-slot-is (suc n) (r ∷ rs) zero h = refl
-slot-is (suc n) [] (suc i) h = slot-is n [] i (omega arith)
-slot-is (suc n) (r ∷ rs) (suc i) h = slot-is n rs i (omega arith)
-
-pub slot-past : (n : ℕ) (rs : List Constraint) (i : ℕ) → n ≤ i → getD (slots n rs) i empty ≡ empty
-slot-past zero rs i h = refl
-slot-past (suc n) rs zero h = absurd (omega arith)
-slot-past (suc n) [] (suc i) h = slot-past n [] i (omega arith)
-slot-past (suc n) (r ∷ rs) (suc i) h = slot-past n rs i (omega arith)
-
 module _ (rs : List Constraint) (b : Progress) where
   -- ---- closing the open step
 

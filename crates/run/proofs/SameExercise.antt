@@ -1,4 +1,5 @@
--- Steps in which nothing ticks are accepted and move no word: a recording is judged as its tick sets alone are, each a step at time 0.
+-- Steps in which nothing ticks are accepted and move no word: a recording is judged as the steps in which something ticks alone are, each at its
+-- time as it is stamped.
 -- Assumes nothing.
 use mathlib.Core.Path.{_≡_, refl, sym, ap, _∙_}
 use mathlib.Core.Bool.{Bool, true, false}
@@ -15,7 +16,7 @@ use Rattle.constraint.specs.declared.Constraint.{Constraint}
 use Rattle.constraint.proofs.TickSets.{bits-zero}
 use Rattle.recording.specs.Body.{Ending, ended, Reading}
 use Rattle.recording.specs.declared.Step.{Step}
-use Rattle.run.specs.Judgement.{nonempty, bare, SameExercise}
+use Rattle.run.specs.Judgement.{ticking, bare, SameExercise}
 use Rattle.run.specs.Run.{Judging, afterStep, judgeAll, ran}
 use Rattle.judging.specs.Step.{judged}
 use Rattle.judging.specs.declared.Outcome.{Outcome}
@@ -39,63 +40,67 @@ unfolding judgeAll
 judged-later rs n c [] e = refl
 judged-later rs n c (s ∷ ss) e = after-later rs n s _ c _ _ _ (λ d. judged-later rs _ d ss e)
 
--- ---- the tick sets alone
+-- ---- the steps in which something ticks, alone: each its time, as it is stamped, and its tick set
 
-abbrev alone : ℕ → Step
-alone F = record { begun = true; mark = record { 0 = 0 }; time = record { 0 = 0 }; ticks = F }
+abbrev alone : ℕ × ℕ → Step
+alone p = record { begun = true; mark = record { 0 = 0 }; time = record { 0 = p .0 }; ticks = p .1 }
 
--- steps ss, judged with j, are judged as the tick sets Fs are, with k
-record JudgedAs (Fs : List ℕ) (k : Judging) (ss : List Step) (j : Judging) : Type 0 where
-  said : bare (j .said) ≡ k .said
-  tick-sets : nonempty (take (suc (j .steps)) ss) ≡ take (suc (k .steps)) Fs
-  configuration : j .configuration ≡ k .configuration
+module _ (stamp : ℕ → ℕ) where
+  abbrev stamped : Step → ℕ × ℕ
+  stamped s = (stamp (s .time .0), s .ticks)
 
-module _ (Fs : List ℕ) (k : Judging) (s : Step) (ss : List Step) (j : Judging) (a : JudgedAs Fs k ss j) where
-  one-empty : eqb (s .ticks) 0 ≡ true → JudgedAs Fs k (s ∷ ss) (later j)
-  one-empty e = record { said = a .said; tick-sets = rw e (a .tick-sets); configuration = a .configuration }
+  -- steps ss, judged with j, are judged as those of ps alone are, with k
+  record JudgedAs (ps : List (ℕ × ℕ)) (k : Judging) (ss : List Step) (j : Judging) : Type 0 where
+    said : bare stamp (j .said) ≡ k .said
+    steps : ticking stamp (take (suc (j .steps)) ss) ≡ take (suc (k .steps)) ps
+    configuration : j .configuration ≡ k .configuration
 
-  one-ticking : eqb (s .ticks) 0 ≡ false → JudgedAs (s .ticks ∷ Fs) (later k) (s ∷ ss) (later j)
-  one-ticking e = record { said = a .said; tick-sets = rw e (ap (λ l. s .ticks ∷ l) (a .tick-sets)); configuration = a .configuration }
+  module _ (ps : List (ℕ × ℕ)) (k : Judging) (s : Step) (ss : List Step) (j : Judging) (a : JudgedAs ps k ss j) where
+    one-empty : eqb (s .ticks) 0 ≡ true → JudgedAs ps k (s ∷ ss) (later j)
+    one-empty e = record { said = a .said; steps = rw e (a .steps); configuration = a .configuration }
 
-module _ (rs : List Constraint) where
-  abbrev JudgedAlone : Configuration → List Step → Type 0
-  JudgedAlone c ss = JudgedAs (nonempty ss) (judgeAll rs 0 c (map alone (nonempty ss)) ended) ss (judgeAll rs 0 c ss ended)
+    one-ticking : eqb (s .ticks) 0 ≡ false → JudgedAs (stamped s ∷ ps) (later k) (s ∷ ss) (later j)
+    one-ticking e = record { said = a .said; steps = rw e (ap (λ l. stamped s ∷ l) (a .steps)); configuration = a .configuration }
 
-  after-alone : (Fs : List ℕ) (ss : List Step) (s : Step) (o : Outcome) (b a : Configuration) (f g : Configuration → Judging) → eqb (s .ticks) 0 ≡ false
-      → JudgedAs (s .ticks ∷ Fs) (f a) (s ∷ ss) (g a) → JudgedAs (s .ticks ∷ Fs) (afterStep rs 0 (alone (s .ticks)) o b a f) (s ∷ ss) (afterStep rs 0 s o b a g)
-  unfolding afterStep
-  after-alone Fs ss s Held b a f g e h = h
-  after-alone Fs ss s (Failed p) b a f g e h = record { said = refl; tick-sets = rw e; configuration = refl }
-  after-alone Fs ss s (PastMillion p) b a f g e h = record { said = refl; tick-sets = rw e; configuration = refl }
+  module _ (rs : List Constraint) where
+    abbrev JudgedAlone : Configuration → List Step → Type 0
+    JudgedAlone c ss = JudgedAs (ticking stamp ss) (judgeAll rs 0 c (map alone (ticking stamp ss)) ended) ss (judgeAll rs 0 c ss ended)
 
-  module _ (c : Configuration) (s : Step) (ss : List Step) where
-    empty-held : eqb (s .ticks) 0 ≡ true → brokenWord rs (c .words) ≡ Nowhere → judged (bits (s .ticks)) rs c ≡ record { outcome = Held; configuration = c }
-    empty-held e h = rw (eqb-true (s .ticks) 0 e, bits-zero) (judged-none rs c h)
+    after-alone : (ps : List (ℕ × ℕ)) (ss : List Step) (s : Step) (o : Outcome) (b a : Configuration) (f g : Configuration → Judging) → eqb (s .ticks) 0 ≡ false
+        → JudgedAs (stamped s ∷ ps) (f a) (s ∷ ss) (g a) → JudgedAs (stamped s ∷ ps) (afterStep rs 0 (alone (stamped s)) o b a f) (s ∷ ss) (afterStep rs 0 s o b a g)
+    unfolding afterStep
+    after-alone ps ss s Held b a f g e h = h
+    after-alone ps ss s (Failed p) b a f g e h = record { said = refl; steps = rw e; configuration = refl }
+    after-alone ps ss s (PastMillion p) b a f g e h = record { said = refl; steps = rw e; configuration = refl }
 
-    empty-step : eqb (s .ticks) 0 ≡ true → brokenWord rs (c .words) ≡ Nowhere → JudgedAlone c ss → JudgedAlone c (s ∷ ss)
-    unfolding judgeAll afterStep
-    empty-step e h a = rw (e, empty-held e h, judged-later rs 0 c ss ended) (one-empty _ _ s ss _ a e)
+    module _ (c : Configuration) (s : Step) (ss : List Step) where
+      empty-held : eqb (s .ticks) 0 ≡ true → brokenWord rs (c .words) ≡ Nowhere → judged (bits (s .ticks)) rs c ≡ record { outcome = Held; configuration = c }
+      empty-held e h = rw (eqb-true (s .ticks) 0 e, bits-zero) (judged-none rs c h)
 
-    ticking-step : eqb (s .ticks) 0 ≡ false → JudgedAlone (judged (bits (s .ticks)) rs c .configuration) ss → JudgedAlone c (s ∷ ss)
+      empty-step : eqb (s .ticks) 0 ≡ true → brokenWord rs (c .words) ≡ Nowhere → JudgedAlone c ss → JudgedAlone c (s ∷ ss)
+      unfolding judgeAll afterStep
+      empty-step e h a = rw (e, empty-held e h, judged-later rs 0 c ss ended) (one-empty _ _ s ss _ a e)
+
+      ticking-step : eqb (s .ticks) 0 ≡ false → JudgedAlone (judged (bits (s .ticks)) rs c .configuration) ss → JudgedAlone c (s ∷ ss)
+      unfolding judgeAll
+      ticking-step e a = rw e (after-alone (ticking stamp ss) ss s _ c _ _ _ e (rw (judged-later rs 0 _ (map alone (ticking stamp ss)) ended, judged-later rs 0 _ ss ended) (one-ticking _ _ s ss _ a e)))
+
+    judged-alone : (c : Configuration) (ss : List Step) → brokenWord rs (c .words) ≡ Nowhere → JudgedAlone c ss
     unfolding judgeAll
-    ticking-step e a = rw e (after-alone (nonempty ss) ss s _ c _ _ _ e (rw (judged-later rs 0 _ (map alone (nonempty ss)) ended, judged-later rs 0 _ ss ended) (one-ticking _ _ s ss _ a e)))
+    judged-alone c [] h = record { said = refl; steps = refl; configuration = refl }
+    judged-alone c (s ∷ ss) h = go (eqb (s .ticks) 0) refl (judged-alone c ss h) (judged-alone (judged (bits (s .ticks)) rs c .configuration) ss (judged-in-range (bits (s .ticks)) rs c h))
+      where
+        go : (x : Bool) → eqb (s .ticks) 0 ≡ x → JudgedAlone c ss → JudgedAlone (judged (bits (s .ticks)) rs c .configuration) ss → JudgedAlone c (s ∷ ss)
+        go true e stayed moved = empty-step c s ss e h stayed
+        go false e stayed moved = ticking-step c s ss e moved
 
-  judged-alone : (c : Configuration) (ss : List Step) → brokenWord rs (c .words) ≡ Nowhere → JudgedAlone c ss
-  unfolding judgeAll
-  judged-alone c [] h = record { said = refl; tick-sets = refl; configuration = refl }
-  judged-alone c (s ∷ ss) h = go (eqb (s .ticks) 0) refl (judged-alone c ss h) (judged-alone (judged (bits (s .ticks)) rs c .configuration) ss (judged-in-range (bits (s .ticks)) rs c h))
-    where
-      go : (x : Bool) → eqb (s .ticks) 0 ≡ x → JudgedAlone c ss → JudgedAlone (judged (bits (s .ticks)) rs c .configuration) ss → JudgedAlone c (s ∷ ss)
-      go true e stayed moved = empty-step c s ss e h stayed
-      go false e stayed moved = ticking-step c s ss e moved
-
-  pub same-exercise : (n : ℕ) (c : Configuration) (g h : Reading) → brokenWord rs (c .words) ≡ Nowhere → nonempty (g .steps) ≡ nonempty (h .steps)
-      → SameExercise g h (ran n (judgeAll rs 0 c (g .steps) ended)) (ran n (judgeAll rs 0 c (h .steps) ended))
-  same-exercise n c g h p same =
-      let one = judged-alone c (g .steps) p in
-      let other = rw (← same) at (judged-alone c (h .steps) p) in
-      record {
-        verdict = one .said ∙ sym (other .said);
-        tick-sets = one .tick-sets ∙ sym (other .tick-sets);
-        configuration = one .configuration ∙ sym (other .configuration);
-      }
+    pub same-exercise : (n : ℕ) (c : Configuration) (g h : Reading) → brokenWord rs (c .words) ≡ Nowhere → ticking stamp (g .steps) ≡ ticking stamp (h .steps)
+        → SameExercise stamp g h (ran n (judgeAll rs 0 c (g .steps) ended)) (ran n (judgeAll rs 0 c (h .steps) ended))
+    same-exercise n c g h p same =
+        let one = judged-alone c (g .steps) p in
+        let other = rw (← same) at (judged-alone c (h .steps) p) in
+        record {
+          verdict = one .said ∙ sym (other .said);
+          steps = one .steps ∙ sym (other .steps);
+          configuration = one .configuration ∙ sym (other .configuration);
+        }

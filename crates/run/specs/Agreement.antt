@@ -1,33 +1,38 @@
 -- A run agrees with single steps, and with the run of another recording of the same exercise. The proofs stand in proofs/Agreement.
 -- Assumes nothing.
 use mathlib.Core.Path.{_≡_}
-use mathlib.Core.List.{List, _∷_, _++_, map}
+use mathlib.Core.List.{List, _++_}
 use Prim.Native.Nat.{ℕ}
-use Rattle.constraint.specs.Ticks.{bits}
-use Rattle.constraint.specs.declared.Configuration.{Configuration}
+use lib.ListN.{length}
+use Rattle.grammar.specs.declared.Table.{Table}
 use Rattle.table.specs.Reader as table
-use Rattle.recording.specs.Body.{ended}
+use Rattle.recording.specs.Body.{ended, Reading}
 use Rattle.recording.specs.declared.Step.{Step}
-use Rattle.run.specs.Judgement.{wordAfter, Accepted, nonempty, SameExercise}
-use Rattle.run.specs.Run.{recordsOf, tableOf, readingBy, runOf}
-use Rattle.judging.specs.Single.{stepOf, judgedTold}
-use Rattle.judging.specs.Step.{judged}
+use Rattle.run.specs.Judgement.{after, SingleSteps, ticking, timed, untimed, SameExercise}
+use Rattle.run.specs.Run.{Told, tableOf, readingBy, runOf}
 
--- a run's steps are single steps: on the table's records, with the words after the accepted steps, a step is not refused by 59, 60 or 61, and
--- is judged as in the run
+-- a run is the single steps on the table's records, one after the other from the start words, as far as they are accepted
+pub record RunSteps (b : Table) (g : Reading) (told : Told) : Type 0 where
+  pub accepted : List Step
+  pub left : List Step
+  pub steps : g .steps ≡ accepted ++ left
+  pub count : told .steps ≡ length accepted
+  pub configuration : told .configuration ≡ after b accepted
+  pub single : SingleSteps b accepted left (told .said)
+
 abbrev pub RunIsSingleSteps : Type 0
-RunIsSingleSteps =
-    (t r : List ℕ) → table.readTable t .said ≡ table.read
-    → (before later : List Step) (s : Step) → readingBy t r .steps ≡ before ++ s ∷ later
-    → (c : Configuration) → c .words ≡ map (wordAfter before) (tableOf t .records) → Accepted (tableOf t .records) before
-    → stepOf (tableOf t .names .count) (recordsOf (tableOf t)) c (s .ticks) ≡ judgedTold (judged (bits (s .ticks)) (recordsOf (tableOf t)) c)
+RunIsSingleSteps = (t r : List ℕ) → table.readTable t .said ≡ table.read → RunSteps (tableOf t) (readingBy t r) (runOf t r)
 
--- two recordings of one exercise, in whose steps the same clocks tick together, steps without ticks left out, have the same verdict and words
-abbrev pub TwoRecordings : Type 0
-TwoRecordings =
+-- two recordings of one exercise, in whose steps the same clocks tick together, steps without ticks left out, have the same verdict and words;
+-- where the times of these steps are the same too, the time of a violation is the same
+abbrev pub SameRuns : (stamp : ℕ → ℕ) → Type 0
+SameRuns stamp =
     (t r q : List ℕ)
     → table.readTable t .said ≡ table.read
     → readingBy t r .ending ≡ ended
     → readingBy t q .ending ≡ ended
-    → nonempty (readingBy t r .steps) ≡ nonempty (readingBy t q .steps)
-    → SameExercise (readingBy t r) (readingBy t q) (runOf t r) (runOf t q)
+    → ticking stamp (readingBy t r .steps) ≡ ticking stamp (readingBy t q .steps)
+    → SameExercise stamp (readingBy t r) (readingBy t q) (runOf t r) (runOf t q)
+
+abbrev pub TwoRecordings : Type 0
+TwoRecordings = SameRuns timed × SameRuns untimed

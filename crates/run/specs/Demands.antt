@@ -1,19 +1,16 @@
--- The three demands on the checker, each in the words of the person that it is built for, and as a claim over the definitions alone. The proofs
--- stand in proofs/Demands. Assumes nothing.
+-- The three demands on the checker, each in the words of the person that it is built for, and as a claim over the definitions alone. The claims on
+-- the single step and on the same-place question are those of the crates `judging` and `constraint`, by name. The proofs stand in
+-- proofs/Demands. Assumes nothing.
 use mathlib.Core.Path.{_≡_}
 use mathlib.Core.Logic.{_↔_}
 use mathlib.Core.List.{List}
 use Prim.Native.Nat.{ℕ}
-use lib.ListN.{length}
-use Rattle.constraint.specs.SamePlace as place
-use Rattle.constraint.specs.declared.Configuration.{Configuration}
-use Rattle.constraint.specs.declared.Constraint.{Constraint}
-use Rattle.constraint.specs.declared.Word.{Word}
+use Rattle.constraint.specs.SamePlace.{SamePlaceRefused, SamePlaceMeant}
 use Rattle.table.specs.Reader as table
+use Rattle.judging.specs.Answers.{EveryStepAnswers}
 use Rattle.run.specs.Judgement.{Judges}
-use Rattle.run.specs.Refusals.{RunRefuses, StepRefuses, SamePlaceRefuses}
+use Rattle.run.specs.Refusals.{RunRefuses}
 use Rattle.run.specs.Run as run
-use Rattle.judging.specs.Single as single
 
 -- 1. Exactly when a table, a recording as far as it is read, a configuration or a tick set breaks one of document 01's limits, the call ends
 -- with that limit's number and place. A whole run then gives the configuration after its last accepted step (demand 2 says which that is), or
@@ -22,12 +19,8 @@ pub record Demand1 : Type 0 where
   pub run-refused : (t r : List ℕ) (n p : ℕ) → run.runOf t r .said ≡ run.refused n p ↔ RunRefuses t r n p
   pub table-refused : (t r : List ℕ) (n p : ℕ) → table.readTable t .said ≡ table.refused n p
       → run.runOf t r ≡ record { said = run.refused n p; steps = 0; constraints = 0; configuration = run.zeros }
-  pub step-refused : (clocks : ℕ) (rs : List Constraint) (c : Configuration) (f n p : ℕ)
-      → single.stepOf clocks rs c f .said ≡ single.refused n p ↔ StepRefuses clocks rs (c .words) f n p
-  pub step-given-back : (clocks : ℕ) (rs : List Constraint) (c : Configuration) (f n p : ℕ)
-      → single.stepOf clocks rs c f .said ≡ single.refused n p → single.stepOf clocks rs c f .configuration ≡ c
-  pub same-place-refused : (clocks : ℕ) (rs : List Constraint) (ws vs : List Word) (n p : ℕ)
-      → place.samePlaceOf clocks rs ws vs ≡ place.refused n p ↔ SamePlaceRefuses clocks rs ws vs n p
+  pub step-answers : EveryStepAnswers
+  pub same-place-refused : SamePlaceRefused
 
 -- 2. Unless a refusal comes first, a recording is accepted up to the first step at which some constraint fails under the operational rules as
 -- document 01 fixes them. The failing constraint highest in the table is named. After each accepted step every word of the configuration is
@@ -39,6 +32,4 @@ Demand2 = (t r : List ℕ) → table.readTable t .said ≡ table.read → Judges
 -- question says yes exactly when, for every constraint judged by itself and for every continuation, the constraint accepts it from both or from
 -- neither. Where it says no, some constraint accepts some continuation from one of the two and not from the other.
 abbrev pub Demand3 : Type 0
-Demand3 =
-    (clocks : ℕ) (rs : List Constraint) (ws vs : List Word) → length ws ≡ 64 → length vs ≡ 64
-    → place.Demand3 clocks rs ws vs (place.samePlaceOf clocks rs ws vs)
+Demand3 = SamePlaceMeant

@@ -1,5 +1,6 @@
 -- The whole run: the table is read, then the recording, and the steps are judged one after the other, up to the first that is not accepted
 -- (document 01, "What the monitor does", "Recording" and "Where each refusal is checked"). Assumes nothing.
+use mathlib.Core.Path.{_≡_}
 use mathlib.Core.List.{List, [], _∷_}
 use Prim.Native.Nat.{ℕ, suc, _-_}
 use lib.IntN.{pos}
@@ -36,6 +37,10 @@ abbrev pub said : Verdict → Said
 said Accepted = accepted
 said (Violated line time) = violated (line .0) (time .0)
 said (Refused r) = refused (numberOf (r .limit)) (r .place .0)
+
+-- the claim: no two verdicts in code have one meaning
+abbrev pub SaidDetermines : Type 0
+SaidDetermines = (v w : Verdict) → said v ≡ said w → v ≡ w
 
 -- what a run gives: verdict, number of accepted steps, number of constraints, configuration
 pub record Told : Type 0 where

@@ -15,7 +15,8 @@ use Rattle.constraint.specs.Meaning.{definedOf, clocksOf, wellFormed}
 use Rattle.constraint.specs.Ticks.{none, any, addingAll, bits}
 use Rattle.constraint.specs.declared.Broken.the-variants.{Nowhere}
 use Rattle.constraint.specs.declared.Constraint.{Constraint}
-use Rattle.constraint.proofs.OneMore.{definedIn, defined-more, fits-more, clocks-more, slots-more, slots-slots, start-passes}
+use Rattle.constraint.proofs.OneMore.{definedIn, defined-more, fits-more, clocks-more, start-passes}
+use Rattle.constraint.proofs.Slots.{slots-more, slots-slots}
 use Rattle.constraint.proofs.TickSets.{bits-zero}
 use Rattle.constraint.proofs.Walk.{defined-bits}
 use Rattle.text.specs.Bytes.{inClass, allBytes}

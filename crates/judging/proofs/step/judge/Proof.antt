@@ -4,7 +4,6 @@ use mathlib.Core.Path.{sym, ap, _∙_}
 use Rattle.constraint.specs.Lists.{slots}
 use Rattle.constraint.specs.Ticks.{bits}
 use Rattle.constraint.proofs.TickSets.{bits-zero}
-use Rattle.judging.proofs.MillionLaws.{out-after}
 use Rattle.judging.proofs.StepLaws.{judged-failed, judged-past, judged-held, judged-none}
 use borrow.Author.Needs.{needs}
 use Rattle.judging.proofs.step.judge.Statement.{statement}
@@ -14,13 +13,13 @@ returns : tie.Need-returns
 returns c =
     let s = c .before .before .args in
     let none-ticks = ap bits (c .before .if1 .taken) ∙ bits-zero in
-    c .handed-back .ensures ∙ sym (rw none-ticks (judged-none (slots (s .count) (s .records)) (s .configuration) (c .before .before .pre .1)))
+    c .handed-back .ensures ∙ sym (rw none-ticks (judged-none (slots (s .count) (s .records)) (s .configuration) (c .before .before .pre .inside)))
 
 returns-2 : tie.Need-returns-2
 returns-2 c =
     let f = c .before .before .before .before in
     let s = f .before .before .args in
-    let failing = sym (f .first-failing .ensures) ∙ c .before .before .place .given .1 in
+    let failing = sym (f .first-not .ensures) ∙ c .before .before .place .given .1 in
     c .handed-back2 .ensures ∙ sym (judged-failed (bits (s .ticks)) (slots (s .count) (s .records)) (s .configuration) _ failing)
 
 returns-3 : tie.Need-returns-3
@@ -29,10 +28,9 @@ returns-3 c =
     let m = b .before in
     let f = m .before .before .before in
     let s = f .before .before .args in
-    let none-failing = sym (f .first-failing .ensures) ∙ m .before .enum-told .given .1 in
-    let out = out-after (bits (s .ticks)) (slots (s .count) (s .records)) (s .configuration .words) _ (m .moved .ensures) (f .before .before .pre .1) none-failing in
-    let full = out ∙ sym (b .first-past .ensures) ∙ c .before .before .place2 .given .1 in
-    c .handed-back3 .ensures ∙ sym (judged-past (bits (s .ticks)) (slots (s .count) (s .records)) (s .configuration) _ (m .moved .ensures) none-failing _ full)
+    let none-failing = sym (f .first-not .ensures) ∙ m .before .enum-told .given .1 in
+    let past = sym (b .first-not2 .ensures) ∙ c .before .before .place2 .given .1 in
+    c .handed-back3 .ensures ∙ sym (judged-past (bits (s .ticks)) (slots (s .count) (s .records)) (s .configuration) _ (m .moved .ensures) none-failing _ past)
 
 returns-4 : tie.Need-returns-4
 returns-4 c =
@@ -40,10 +38,9 @@ returns-4 c =
     let m = b .before in
     let f = m .before .before .before in
     let s = f .before .before .args in
-    let none-failing = sym (f .first-failing .ensures) ∙ m .before .enum-told .given .1 in
-    let out = out-after (bits (s .ticks)) (slots (s .count) (s .records)) (s .configuration .words) _ (m .moved .ensures) (f .before .before .pre .1) none-failing in
-    let none-full = out ∙ sym (b .first-past .ensures) ∙ c .before .enum-told2 .given .1 in
-    c .handed-back4 .ensures ∙ sym (judged-held (bits (s .ticks)) (slots (s .count) (s .records)) (s .configuration) _ (m .moved .ensures) none-failing none-full)
+    let none-failing = sym (f .first-not .ensures) ∙ m .before .enum-told .given .1 in
+    let none-past = sym (b .first-not2 .ensures) ∙ c .before .enum-told2 .given .1 in
+    c .handed-back4 .ensures ∙ sym (judged-held (bits (s .ticks)) (slots (s .count) (s .records)) (s .configuration) _ (m .moved .ensures) none-failing none-past)
 
 pub judge-spec : {M : Type 1} → statement M
 judge-spec =

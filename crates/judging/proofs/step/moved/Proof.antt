@@ -24,7 +24,7 @@ next-word-requires c κs =
     let l = c .before .before .before in
     let s = l .before .before .args in
     let p : length (s .configuration .words) ≡ 64 = search (needs, length-mapped) in
-    old-in-range (bits (s .ticks)) (s .t1) (s .configuration .words) (l .loop .words) (l .loop .i) _ _ (search needs) (omega arith) (l .loop .inv .1) (s .count) (l .before .before .pre .1) (search needs)
+    old-in-range (bits (s .ticks)) (s .t1) (s .configuration .words) (l .loop .words) (l .loop .i) _ _ (search needs) (omega arith) (l .loop .inv .1) (s .count) (l .before .before .pre .inside) (search needs)
 
 loop-again : tie.Need-loop-again Inv-loop μ-loop
 loop-again c =

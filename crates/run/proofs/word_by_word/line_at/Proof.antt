@@ -1,5 +1,5 @@
 -- `line_at` meets its contract. Assumes nothing.
-use Rattle.run.proofs.RunLaws.{slot-is, slot-past}
+use Rattle.constraint.proofs.Slots.{slot-is, slot-past}
 use borrow.Author.Needs.{needs}
 use Rattle.run.proofs.word_by_word.line_at.Statement.{statement}
 use Rattle.run.proofs.word_by_word.line_at.Tie as tie

@@ -1,0 +1,65 @@
+-- What a single step answers, and when: refused, violated, accepted, each exactly then (document 01, "Where each refusal is checked", its last
+-- three rows). The proofs stand in proofs/AnswerLaws. Assumes nothing.
+use mathlib.Core.Path.{_≡_}
+use mathlib.Core.Logic.{_↔_}
+use mathlib.Core.List.{List}
+use Prim.Native.Nat.{ℕ, _^_, _<_, _≤_}
+use lib.IntN.{pos}
+use lib.ListN.{length}
+use Rattle.limit.specs.Limit.{numberOf}
+use Rattle.limit.specs.declared.Limit.the-variants.{Records, ConfigurationWord, TickSet, Million}
+use Rattle.limit.specs.declared.Place.{Place}
+use Rattle.constraint.specs.Lists.{at, brokenRecord, brokenWord}
+use Rattle.constraint.specs.Meaning.{word, nextWord}
+use Rattle.constraint.specs.Million.{firstPast}
+use Rattle.constraint.specs.SamePlace.{recordAt, wordAt}
+use Rattle.constraint.specs.Ticks.{bits}
+use Rattle.constraint.specs.declared.Broken.the-variants.{Nowhere, At}
+use Rattle.constraint.specs.declared.Configuration.{Configuration}
+use Rattle.constraint.specs.declared.Constraint.{Constraint}
+use Rattle.constraint.specs.declared.Word.{Word}
+use Rattle.judging.specs.Single.{stepOf, accepted, violated, refused}
+use Rattle.judging.specs.Step.{firstFailing, moved}
+
+-- 59, 60 and 61 let the step pass
+pub record Passes (clocks : ℕ) (rs : List Constraint) (ws : List Word) (f : ℕ) : Type 0 where
+  pub records : brokenRecord clocks rs ≡ Nowhere
+  pub words : brokenWord rs ws ≡ Nowhere
+  pub ticks : f < 2 ^ clocks
+
+-- refused: 59; 60; 61; and 51, after every constraint held; each where those before it are kept
+pub data StepRefuses (clocks : ℕ) (rs : List Constraint) (ws : List Word) (f : ℕ) : (number place : ℕ) → Type 0 where
+  by-records : {p : Place} → brokenRecord clocks rs ≡ At p → StepRefuses clocks rs ws f (numberOf Records) (p .0)
+  by-words : {p : Place} → brokenRecord clocks rs ≡ Nowhere → brokenWord rs ws ≡ At p → StepRefuses clocks rs ws f (numberOf ConfigurationWord) (p .0)
+  by-ticks : brokenRecord clocks rs ≡ Nowhere → brokenWord rs ws ≡ Nowhere → 2 ^ clocks ≤ f → StepRefuses clocks rs ws f (numberOf TickSet) 0
+  by-million : {p : Place}
+      → Passes clocks rs ws f
+      → firstFailing (bits f) 1 rs ws ≡ Nowhere
+      → firstPast 1 rs (moved (bits f) rs ws) ≡ At p
+      → StepRefuses clocks rs ws f (numberOf Million) (p .0)
+
+-- violated: the record at this place is the first that fails
+pub record StepViolates (clocks : ℕ) (rs : List Constraint) (ws : List Word) (f place : ℕ) : Type 0 where
+  pub passes : Passes clocks rs ws f
+  pub fails : firstFailing (bits f) 1 rs ws ≡ at place
+
+-- accepted: every constraint holds, and no word leaves its million
+pub record StepAccepts (clocks : ℕ) (rs : List Constraint) (ws : List Word) (f : ℕ) : Type 0 where
+  pub passes : Passes clocks rs ws f
+  pub holds : firstFailing (bits f) 1 rs ws ≡ Nowhere
+  pub stays : firstPast 1 rs (moved (bits f) rs ws) ≡ Nowhere
+
+-- ---- the claims: exactly then; what is not accepted hands back the configuration that it was given; what is accepted moves every word by the
+-- rules, and leaves those beyond the records 0
+
+pub record StepAnswers (clocks : ℕ) (rs : List Constraint) (c : Configuration) (f : ℕ) : Type 0 where
+  pub refuses : (n p : ℕ) → stepOf clocks rs c f .said ≡ refused n p ↔ StepRefuses clocks rs (c .words) f n p
+  pub violates : (p : ℕ) → stepOf clocks rs c f .said ≡ violated p ↔ StepViolates clocks rs (c .words) f p
+  pub accepts : stepOf clocks rs c f .said ≡ accepted ↔ StepAccepts clocks rs (c .words) f
+  pub given-back : (stepOf clocks rs c f .said ≡ accepted → ⊥) → stepOf clocks rs c f .configuration ≡ c
+  pub moves : stepOf clocks rs c f .said ≡ accepted → (i : ℕ) → i < length (c .words)
+      → wordAt (stepOf clocks rs c f .configuration .words) i ≡ nextWord (recordAt rs i) (wordAt (c .words) i) (bits f)
+  pub beyond : stepOf clocks rs c f .said ≡ accepted → (i : ℕ) → length rs ≤ i → wordAt (stepOf clocks rs c f .configuration .words) i ≡ word (pos 0)
+
+abbrev pub EveryStepAnswers : Type 0
+EveryStepAnswers = (clocks : ℕ) (rs : List Constraint) (c : Configuration) (f : ℕ) → StepAnswers clocks rs c f
