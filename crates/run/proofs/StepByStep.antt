@@ -15,7 +15,7 @@ use Rattle.table.proofs.Passes.{every-table-passes}
 use Rattle.recording.specs.Body.{Ending}
 use Rattle.recording.specs.declared.Step.{Step}
 use Rattle.recording.proofs.StepTicks.{named-clock, one-ticking, reading-ticking}
-use Rattle.judging.specs.Single.{judgedTold, stepOf}
+use Rattle.judging.specs.Single.{accepted, judgedTold, stepOf}
 use Rattle.judging.specs.Step.{judged}
 use Rattle.run.specs.Judgement.{Accepted, Ends, at-end, fails, past, after, stepOn, Stops, by-record, by-million, SingleSteps}
 use Rattle.run.specs.Run.{Said, violated, recordsOf, tableOf, readingBy}
@@ -60,7 +60,7 @@ module _ (t r : List ℕ) (e : table.readTable t .said ≡ table.read) where
   pub single-steps : (ss left : List Step) (x : Ending) (said : Said) → Accepted (b .records) ss → readingBy t r .steps ≡ ss ++ left → Ends (b .records) x ss left said → SingleSteps b ss left said
   single-steps ss left x said h place ends = record { each = each; stop = stops-at ss left x said h place ends }
     where
-      each : (before later : List Step) (s : Step) → ss ≡ before ++ s ∷ later → stepOn b (after b before) s ≡ _
+      each : (before later : List Step) (s : Step) → ss ≡ before ++ s ∷ later → stepOn b (after b before) s ≡ record { said = accepted; configuration = after b (before ++ s ∷ []) }
       each before later s q =
           let p = every-table-passes t e in
           let all : Accepted (b .records) (before ++ s ∷ later) = rw q at h in
