@@ -1,6 +1,6 @@
 //! The calls on small inputs whose answers document 01 and the header give.
 
-use ccsl::{raw, Clock, Kind, Record, Refusal, SamePlace, StepAnswer, Verdict, WORDS};
+use ccsl::{raw, Clock, Kind, Record, Refusal, SamePlace, StepAnswer, Steps, Time, Verdict, WORDS};
 
 const TABLE: &[u8] = b"req strictly precedes ack\ndone clockDef await 2 ack\n";
 const RECORDING: &[u8] = b"$var event 1 ! req $end $var event 1 \" ack $end \
@@ -33,6 +33,25 @@ fn the_example_of_document_01_is_printed() {
     assert_eq!(
         ccsl::run(TABLE, RECORDING).to_string(),
         "violated 1 9\nsteps 4\nconfig 0 0\n"
+    );
+}
+
+#[test]
+fn steps_are_counted_and_times_are_recorded() {
+    let report = ccsl::run(TABLE, RECORDING);
+    assert_eq!(
+        (report.verdict, report.steps),
+        (
+            Verdict::Violated {
+                line: 1,
+                time: Time(9)
+            },
+            Steps(4)
+        )
+    );
+    assert_eq!(
+        format!("{} {}", report.steps, Time(u64::MAX)),
+        "4 18446744073709551615"
     );
 }
 
