@@ -108,6 +108,27 @@ fn empty_texts_are_accepted() {
 }
 
 #[test]
+fn calls_run_at_once_from_several_threads() {
+    let table = ccsl::read_table(TABLE).unwrap();
+    std::thread::scope(|scope| {
+        for _ in 0..8 {
+            scope.spawn(|| {
+                for _ in 0..200 {
+                    assert_eq!(ccsl::read_table(TABLE), Ok(table.clone()));
+                    assert_eq!(ccsl::run(TABLE, RECORDING).steps, Steps(4));
+                    let mut words = configuration(&[0, 2]);
+                    let answer = ccsl::step(&table.records, 3, &mut words, 0b001);
+                    assert_eq!(
+                        (answer, words),
+                        (StepAnswer::Accepted, configuration(&[1, 2]))
+                    );
+                }
+            });
+        }
+    });
+}
+
+#[test]
 fn a_refused_table_prints_config_alone() {
     assert_eq!(
         ccsl::run(b"a = a", RECORDING).to_string(),
