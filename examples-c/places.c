@@ -9,7 +9,8 @@
 
 /* The clocks are numbered in the order in which they first stand here. */
 static const char text[] = "fill strictly precedes seal\n"
-                           "done clockDef fill lub seal\n";
+                           "done clockDef fill lub seal\n"
+                           "full clockDef await 3 seal\n";
 enum { FILL = 1 << 0, SEAL = 1 << 1, DONE = 1 << 2 };
 
 /* The table as the library reads it. */
@@ -49,6 +50,21 @@ static void read_table(void)
     printf("\n");
 }
 
+static void print_words(const int64_t *words)
+{
+    printf("config");
+    for (uint64_t i = 0; i < constraints; i++)
+        printf(" %" PRId64, words[i]);
+    printf("\n");
+}
+
+/* Single steps begin with the table's start words: what a run of a recording of length 0 leaves, since it is refused before any step. */
+static void start(int64_t *words)
+{
+    uint64_t answer[CCSL_RUN_ANSWER];
+    check(ccsl_run((const uint8_t *)text, strlen(text), (const uint8_t *)"", 0, answer, CCSL_RUN_ANSWER, words, CCSL_WORDS));
+}
+
 /* Takes one step and prints how it was judged, and the configuration after it. */
 static void step(int64_t *words, uint32_t set)
 {
@@ -62,10 +78,8 @@ static void step(int64_t *words, uint32_t set)
         printf(": violated %" PRIu64, answer[1]);
     else
         printf(": refused %" PRIu64 " %" PRIu64, answer[1], answer[2]);
-    printf(", config");
-    for (uint64_t i = 0; i < constraints; i++)
-        printf(" %" PRId64, words[i]);
-    printf("\n");
+    printf(", ");
+    print_words(words);
 }
 
 static void compare(const int64_t *one, const int64_t *other)
@@ -83,11 +97,13 @@ static void compare(const int64_t *one, const int64_t *other)
 
 int main(void)
 {
-    /* Both forms that this table uses start with 0. */
-    int64_t one[CCSL_WORDS] = {0};
-    int64_t other[CCSL_WORDS] = {0};
+    int64_t one[CCSL_WORDS], other[CCSL_WORDS];
 
     read_table();
+    start(one);
+    start(other);
+    printf("Both start with ");
+    print_words(one);
 
     printf("\nOne machine seals a box before it fills the next.\n");
     step(one, FILL);

@@ -4,6 +4,9 @@
  * Every call returns a status. CCSL_DONE: the answer was written, and the other lists that the call writes. Any other: a list that was
  * handed in has not the shape that the call asks for, and nothing was written.
  *
+ * The library keeps nothing between calls and has no state of its own, so that calls may run at once from several threads. Two calls at
+ * once may read the same list; one that a call writes belongs to that call alone.
+ *
  * A pointer is never NULL, also where its length is 0. A list that a call writes overlaps no other list of the same call. Lengths count
  * elements. Of a list that is longer than the call needs, the rest is left alone.
  *
@@ -73,7 +76,7 @@ enum {
  * answer, 5 numbers: CCSL_ACCEPTED, 0, 0; or CCSL_VIOLATED, the table line, the recorded time; or CCSL_REFUSED, the limit's number, the
  * place; then the number of accepted steps and the number of constraints, both 0 where the table was refused.
  * words, 64 words: the configuration after the accepted steps, all 0 where the table was refused. A recording of length 0 is refused, with
- * 36, and leaves the table's start words: single steps begin with them.
+ * 36, and leaves the table's start words: single steps begin with them (examples-c/places.c).
  * CCSL_ANSWER_SHORT, CCSL_WORDS_SHORT. */
 uint32_t ccsl_run(const uint8_t *table, size_t table_len,
                   const uint8_t *recording, size_t recording_len,

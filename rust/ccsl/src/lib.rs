@@ -13,11 +13,9 @@
 
 pub mod raw;
 
+pub use raw::WORDS;
 use std::fmt;
 use std::ops::Range;
-
-/// Words of a configuration.
-pub const WORDS: usize = 64;
 
 /// One word a record, in table order, the rest 0.
 pub type Configuration = [i64; WORDS];
@@ -112,6 +110,18 @@ pub struct Refusal {
     pub place: u64,
 }
 
+/// A number of accepted steps: counted, and never compared with a [`Time`].
+///
+/// ```compile_fail
+/// assert!(ccsl::Steps(4) < ccsl::Time(9));
+/// ```
+#[derive(Clone, Copy, Debug, PartialEq, Eq, PartialOrd, Ord, Hash)]
+pub struct Steps(pub u64);
+
+/// A recorded time: it comes from the recording alone.
+#[derive(Clone, Copy, Debug, PartialEq, Eq, PartialOrd, Ord, Hash)]
+pub struct Time(pub u64);
+
 /// How a run ended.
 #[derive(Clone, Copy, Debug, PartialEq, Eq)]
 pub enum Verdict {
@@ -119,7 +129,7 @@ pub enum Verdict {
     /// The table line that the recording breaks, and the recorded time of the step that breaks it.
     Violated {
         line: u64,
-        time: u64,
+        time: Time,
     },
     Refused(Refusal),
 }
@@ -129,7 +139,7 @@ pub enum Verdict {
 pub struct Report {
     pub verdict: Verdict,
     /// The number of accepted steps.
-    pub steps: u64,
+    pub steps: Steps,
     /// The number of constraints, 0 where the table was refused.
     pub constraints: usize,
     /// The configuration after the accepted steps.
@@ -160,7 +170,7 @@ pub fn read_table(text: &[u8]) -> Result<Table, Refusal> {
     let mut names = [0; raw::CLOCKS * 2];
     done(raw::read_table(text, &mut answer, &mut records, &mut names));
     let [outcome, number, place, constraints, clocks] = answer;
-    if outcome != 0 {
+    if outcome != raw::ACCEPTED {
         return Err(Refusal { number, place });
     }
     Ok(Table {
@@ -184,10 +194,10 @@ pub fn run(table: &[u8], recording: &[u8]) -> Report {
     done(raw::run(table, recording, &mut answer, &mut configuration));
     let [outcome, first, second, steps, constraints] = answer;
     let verdict = match outcome {
-        0 => Verdict::Accepted,
-        1 => Verdict::Violated {
+        raw::ACCEPTED => Verdict::Accepted,
+        raw::VIOLATED => Verdict::Violated {
             line: first,
-            time: second,
+            time: Time(second),
         },
         _ => Verdict::Refused(Refusal {
             number: first,
@@ -196,7 +206,7 @@ pub fn run(table: &[u8], recording: &[u8]) -> Report {
     };
     Report {
         verdict,
-        steps,
+        steps: Steps(steps),
         constraints: constraints as usize,
         configuration,
     }
@@ -226,8 +236,8 @@ pub fn step(
         &mut answer,
     ));
     match answer {
-        [0, _, _] => StepAnswer::Accepted,
-        [1, record, _] => StepAnswer::Violated(record),
+        [raw::ACCEPTED, _, _] => StepAnswer::Accepted,
+        [raw::VIOLATED, record, _] => StepAnswer::Violated(record),
         [_, number, place] => StepAnswer::Refused(Refusal { number, place }),
     }
 }
@@ -249,8 +259,8 @@ pub fn same_place(
         &mut answer,
     ));
     match answer {
-        [0, _, _] => SamePlace::Same,
-        [1, _, _] => SamePlace::Different,
+        [raw::ACCEPTED, _, _] => SamePlace::Same,
+        [raw::VIOLATED, _, _] => SamePlace::Different,
         [_, number, place] => SamePlace::Refused(Refusal { number, place }),
     }
 }
@@ -295,6 +305,18 @@ fn clock(text: &[u8], ends: &[u64]) -> Clock {
 /// The lists that this crate hands in always have the right shape.
 fn done(status: u32) {
     assert_eq!(status, raw::DONE, "a list of the wrong shape was handed in");
+}
+
+impl fmt::Display for Steps {
+    fn fmt(&self, f: &mut fmt::Formatter<'_>) -> fmt::Result {
+        self.0.fmt(f)
+    }
+}
+
+impl fmt::Display for Time {
+    fn fmt(&self, f: &mut fmt::Formatter<'_>) -> fmt::Result {
+        self.0.fmt(f)
+    }
 }
 
 impl fmt::Display for Verdict {

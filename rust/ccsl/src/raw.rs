@@ -67,6 +67,13 @@ pub const RECORDS_RAGGED: u32 = 5;
 /// A record's kind is above that of `upto`.
 pub const KIND_UNKNOWN: u32 = 6;
 
+/// The first number of an answer: accepted, read, or the same place.
+pub const ACCEPTED: u64 = 0;
+/// The first number of an answer: violated, or different places.
+pub const VIOLATED: u64 = 1;
+/// The first number of an answer: refused.
+pub const REFUSED: u64 = 2;
+
 /// Numbers that [`run`] writes into `answer`.
 pub const RUN_ANSWER: usize = 5;
 /// Numbers that [`read_table`] writes into `answer`.
@@ -81,6 +88,8 @@ pub const RECORD: usize = 6;
 pub const RECORDS: usize = 64;
 /// Pairs that [`read_table`] writes into `names`.
 pub const CLOCKS: usize = 32;
+/// Words of a configuration.
+pub const WORDS: usize = 64;
 
 /// `ccsl_run`.
 pub fn run(table: &[u8], recording: &[u8], answer: &mut [u64], words: &mut [i64]) -> u32 {

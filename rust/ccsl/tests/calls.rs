@@ -1,6 +1,6 @@
 //! The calls on small inputs whose answers document 01 and the header give.
 
-use ccsl::{raw, Clock, Kind, Record, Refusal, SamePlace, StepAnswer, Verdict, WORDS};
+use ccsl::{raw, Clock, Kind, Record, Refusal, SamePlace, StepAnswer, Steps, Time, Verdict, WORDS};
 
 const TABLE: &[u8] = b"req strictly precedes ack\ndone clockDef await 2 ack\n";
 const RECORDING: &[u8] = b"$var event 1 ! req $end $var event 1 \" ack $end \
@@ -33,6 +33,25 @@ fn the_example_of_document_01_is_printed() {
     assert_eq!(
         ccsl::run(TABLE, RECORDING).to_string(),
         "violated 1 9\nsteps 4\nconfig 0 0\n"
+    );
+}
+
+#[test]
+fn steps_are_counted_and_times_are_recorded() {
+    let report = ccsl::run(TABLE, RECORDING);
+    assert_eq!(
+        (report.verdict, report.steps),
+        (
+            Verdict::Violated {
+                line: 1,
+                time: Time(9)
+            },
+            Steps(4)
+        )
+    );
+    assert_eq!(
+        format!("{} {}", report.steps, Time(u64::MAX)),
+        "4 18446744073709551615"
     );
 }
 
@@ -86,6 +105,27 @@ fn empty_texts_are_accepted() {
             place: 0
         })
     );
+}
+
+#[test]
+fn calls_run_at_once_from_several_threads() {
+    let table = ccsl::read_table(TABLE).unwrap();
+    std::thread::scope(|scope| {
+        for _ in 0..8 {
+            scope.spawn(|| {
+                for _ in 0..200 {
+                    assert_eq!(ccsl::read_table(TABLE), Ok(table.clone()));
+                    assert_eq!(ccsl::run(TABLE, RECORDING).steps, Steps(4));
+                    let mut words = configuration(&[0, 2]);
+                    let answer = ccsl::step(&table.records, 3, &mut words, 0b001);
+                    assert_eq!(
+                        (answer, words),
+                        (StepAnswer::Accepted, configuration(&[1, 2]))
+                    );
+                }
+            });
+        }
+    });
 }
 
 #[test]

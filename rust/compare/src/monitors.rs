@@ -254,12 +254,12 @@ fn read(table: ccsl::Table) -> Read {
 fn report(report: ccsl::Report) -> Report {
     let verdict = match report.verdict {
         ccsl::Verdict::Accepted => Verdict::Accepted,
-        ccsl::Verdict::Violated { line, time } => Verdict::Violated { line, time },
+        ccsl::Verdict::Violated { line, time } => Verdict::Violated { line, time: time.0 },
         ccsl::Verdict::Refused(r) => Verdict::Refused(refusal(r)),
     };
     Report {
         verdict,
-        steps: report.steps,
+        steps: report.steps.0,
         constraints: report.constraints,
         configuration: report.configuration,
     }
