@@ -1,20 +1,21 @@
 -- What a single step answers: the checks in their order, one by one, decide the whole answer, and each claim of `StepAnswers` is read off that.
 -- Assumes nothing.
-use mathlib.Core.Path.{_≡_, refl, ap, _∙_}
-use mathlib.Core.Bool.{Bool, true, false, cond, false≢true}
+use mathlib.Core.Path.{_≡_, refl, sym, ap, _∙_}
+use mathlib.Core.Bool.{Bool, true, false, cond, true≢false, false≢true}
 use mathlib.Core.List.{List, [], _∷_}
-use Prim.Native.Nat.{ℕ, zero, suc, _^_, _<_, _≤_}
+use Prim.Native.Nat.{ℕ, zero, suc, _+_, _^_, _<_, _≤_}
 use native.Mathlib.Omega.{arith}
 use borrow.Author.Tests.{lt-ltb, le-ltb, ltb-true, ltb-false, leb-true}
 use lib.Dec.{ltb, leb}
 use lib.IntN.{ℤ, pos, negsuc}
 use lib.ListN.{length}
 use Rattle.limit.specs.declared.Limit.the-variants.{Records, ConfigurationWord, TickSet}
+use Rattle.limit.specs.declared.Place.{Place}
 use Rattle.limit.specs.Limit.{numberOf}
 use Rattle.limit.proofs.Numbers.{refusals-differ}
-use Rattle.constraint.specs.Lists.{at, empty, firstOut, brokenRecord, brokenWord}
-use Rattle.constraint.specs.Meaning.{word, within, wordRange, nextWord, inRange}
-use Rattle.constraint.specs.Million.{firstPast}
+use Rattle.constraint.specs.Lists.{at, empty, firstNot, firstOut, brokenRecord, brokenWord}
+use Rattle.constraint.specs.Meaning.{word, within, wordRange, holds, nextWord, inRange}
+use Rattle.constraint.specs.Million.{inMillion, firstPast}
 use Rattle.constraint.specs.SamePlace.{recordAt, wordAt}
 use Rattle.constraint.specs.Ticks.{Ticks, bits}
 use Rattle.constraint.specs.declared.Broken.{Broken}
@@ -24,11 +25,12 @@ use Rattle.constraint.specs.declared.Constraint.{Constraint}
 use Rattle.constraint.specs.declared.Word.{Word}
 use Rattle.constraint.proofs.Booleans.{and-r}
 use Rattle.constraint.proofs.Demand3.{nowhere}
-use Rattle.judging.specs.Answers.{Passes, StepRefuses, by-records, by-words, by-ticks, by-million, StepViolates, StepAccepts, EveryStepAnswers}
+use Rattle.judging.specs.Answers.{HasBoth, Holds, Stays, All, FirstNot, Passes, StepRefuses, by-records, by-words, by-ticks, by-million, StepViolates, StepAccepts, EveryStepAnswers}
 use Rattle.judging.specs.Single.{StepSaid, accepted, violated, refused, StepTold, StepSaidDetermines, refusesAt, beyondClocks, judgedTold, stepOf}
 use Rattle.judging.specs.Step.{firstFailing, moved, handedBack, judged}
 use Rattle.judging.specs.declared.Outcome.the-variants.{Held, Failed, PastMillion}
 use Rattle.judging.specs.declared.StepAnswer.the-variants.{Accepted, Violated, Refused}
+use Rattle.judging.proofs.StepLaws.{length-moved}
 
 -- ---- the words after a step, one by one
 
@@ -59,6 +61,93 @@ zero-beyond k [] (w ∷ ws) (suc i) e h = zero-beyond (suc k) [] ws i (nowhere (
 zero-beyond k (r ∷ rs) (w ∷ ws) zero e h = absurd (omega arith)
 zero-beyond k (r ∷ rs) (w ∷ ws) (suc i) e h = zero-beyond (suc k) rs ws i (nowhere (inRange r w) _ k e .1) (omega arith)
 
+by-index : (P : ℕ → Type 0) → P 0 → ((i : ℕ) → P (suc i)) → (i : ℕ) → P i
+by-index P z s zero = z
+by-index P z s (suc i) = s i
+
+-- ---- the first record that does not pass a test with its word, by its index
+module _ (test : Constraint → Word → Bool) where
+  abbrev Passing : List Constraint → List Word → ℕ → Type 0
+  Passing rs ws i = test (recordAt rs i) (wordAt ws i) ≡ true
+
+  abbrev Found : (n : ℕ) → List Constraint → List Word → Broken → Type 0
+  Found n rs ws Nowhere = All rs ws (Passing rs ws)
+  Found n rs ws (At p) = (k : ℕ) × (p .0 ≡ n + k) × HasBoth rs ws k × ((i : ℕ) → i < k → Passing rs ws i) × (test (recordAt rs k) (wordAt ws k) ≡ false)
+
+  found : (n : ℕ) (rs : List Constraint) (ws : List Word) → Found n rs ws (firstNot test n rs ws)
+  found n [] ws = λ i h. absurd (omega arith)
+  found n (r ∷ rs) [] = λ i h. absurd (omega arith)
+  found n (r ∷ rs) (w ∷ ws) = go (test r w) refl (firstNot test (suc n) rs ws) (found (suc n) rs ws)
+    where
+      go : (x : Bool) → test r w ≡ x → (b : Broken) → Found (suc n) rs ws b → Found n (r ∷ rs) (w ∷ ws) (cond x b (at n))
+      go true e Nowhere f = λ i h. by-index (λ j. HasBoth (r ∷ rs) (w ∷ ws) j → Passing (r ∷ rs) (w ∷ ws) j) (λ _. e) (λ j k. f j (omega arith, omega arith)) i h
+      go true e (At p) (k, q, both, before, here) =
+          (suc k, omega arith, (omega arith, omega arith), (λ i h. by-index (λ j. j < suc k → Passing (r ∷ rs) (w ∷ ws) j) (λ _. e) (λ j l. before j (omega arith)) i h), here)
+      go false e b f = (0, omega arith, (omega arith, omega arith), (λ i h. absurd (omega arith)), e)
+
+  -- and back
+  none-found : (n : ℕ) (rs : List Constraint) (ws : List Word) → All rs ws (Passing rs ws) → firstNot test n rs ws ≡ Nowhere
+  none-found n [] ws h = refl
+  none-found n (r ∷ rs) [] h = refl
+  none-found n (r ∷ rs) (w ∷ ws) h = rw (h 0 (omega arith, omega arith)) (none-found (suc n) rs ws (λ i k. h (suc i) (omega arith, omega arith)))
+
+  one-found : (n : ℕ) (rs : List Constraint) (ws : List Word) (k : ℕ) → HasBoth rs ws k → ((i : ℕ) → i < k → Passing rs ws i) → test (recordAt rs k) (wordAt ws k) ≡ false
+      → firstNot test n rs ws ≡ at (n + k)
+  one-found n [] ws k both before here = absurd (omega arith)
+  one-found n (r ∷ rs) [] k both before here = absurd (omega arith)
+  one-found n (r ∷ rs) (w ∷ ws) zero both before here = rw here (ap at (omega arith))
+  one-found n (r ∷ rs) (w ∷ ws) (suc k) both before here =
+      rw (before 0 (omega arith)) (one-found (suc n) rs ws k (omega arith, omega arith) (λ i h. before (suc i) (omega arith)) here ∙ ap at (omega arith))
+
+not-true-is : (x : Bool) → (x ≡ true → ⊥) → x ≡ false
+not-true-is true n = absurd (n refl)
+not-true-is false n = refl
+
+-- ---- the two tests of a step
+module _ (rs : List Constraint) (ws : List Word) (f : ℕ) where
+  abbrev holding : Constraint → Word → Bool
+  holding r w = holds r w (bits f)
+
+  abbrev moves : List Word
+  moves = moved (bits f) rs ws
+
+  -- the words after the step are as many, and each is the next word of its record
+  next-at : (i : ℕ) → i < length ws → inMillion (recordAt rs i) (wordAt moves i) ≡ inMillion (recordAt rs i) (nextWord (recordAt rs i) (wordAt ws i) (bits f))
+  next-at i h = ap (inMillion (recordAt rs i)) (moved-at (bits f) rs ws i h)
+
+  as-many : length moves ≡ length ws
+  as-many = length-moved (bits f) rs ws
+
+  fails-first : (p : Place) → Found holding 1 rs ws (At p) → FirstNot rs ws (Holds rs ws f) (p .0)
+  fails-first p (k, q, both, before, here) = record { index = k; at = q; there = both; before = before; here = λ h. true≢false (sym h ∙ here) }
+
+  past-first : (p : Place) → Found inMillion 1 rs moves (At p) → FirstNot rs ws (Stays rs ws f) (p .0)
+  past-first p (k, q, both, before, here) =
+      let there : HasBoth rs ws k = (both .0, omega (arith, as-many)) in
+      record {
+        index = k;
+        at = q;
+        there = there;
+        before = λ i h. sym (next-at i (omega arith)) ∙ before i h;
+        here = λ h. true≢false (sym h ∙ sym (next-at k (there .1)) ∙ here);
+      }
+
+  all-stay : Found inMillion 1 rs moves Nowhere → All rs ws (Stays rs ws f)
+  all-stay g i h = sym (next-at i (h .1)) ∙ g i (h .0, omega (arith, as-many))
+
+  first-fails : {p : ℕ} → FirstNot rs ws (Holds rs ws f) p → firstFailing (bits f) 1 rs ws ≡ at p
+  first-fails x = one-found holding 1 rs ws (x .index) (x .there) (x .before) (not-true-is _ (x .here)) ∙ ap at (sym (x .at))
+
+  first-past : {p : ℕ} → FirstNot rs ws (Stays rs ws f) p → firstPast 1 rs moves ≡ at p
+  first-past x =
+      one-found inMillion 1 rs moves (x .index) (x .there .0, omega (arith, as-many))
+      (λ i h. next-at i (omega (arith, x .there .1)) ∙ x .before i h)
+      (next-at (x .index) (x .there .1) ∙ not-true-is _ (x .here))
+      ∙ ap at (sym (x .at))
+
+  none-past : All rs ws (Stays rs ws f) → firstPast 1 rs moves ≡ Nowhere
+  none-past g = none-found inMillion 1 rs moves (λ i h. let k : i < length ws = omega (arith, as-many) in next-at i k ∙ g i (h .0, k))
+
 -- ---- the checks, one by one
 module _ (clocks : ℕ) (rs : List Constraint) (c : Configuration) (f : ℕ) where
   abbrev after : List Word
@@ -76,16 +165,18 @@ module _ (clocks : ℕ) (rs : List Constraint) (c : Configuration) (f : ℕ) whe
   abbrev judges : StepTold
   judges = judgedTold (judged (bits f) rs c)
 
-  judging : Passes clocks rs (c .words) f → (x y : Broken) → firstFailing (bits f) 1 rs (c .words) ≡ x → firstPast 1 rs after ≡ y
+  judging : Passes clocks rs (c .words) f → (x y : Broken) → Found (holding rs (c .words) f) 1 rs (c .words) x → Found inMillion 1 rs after y
       → Answers (judgedTold (handedBack Failed x c (handedBack PastMillion y c (record { outcome = Held; configuration = record { words = after } }))))
-  judging ok (At p) y e q = (record { passes = ok; fails = e }, refl)
-  judging ok Nowhere (At p) e q = (by-million ok e q, refl)
-  judging ok Nowhere Nowhere e q = (record { passes = ok; holds = e; stays = q }, refl)
+  judging ok (At p) y e q = (record { passes = ok; fails = fails-first rs (c .words) f p e }, refl)
+  judging ok Nowhere (At p) e q = (by-million ok e (past-first rs (c .words) f p q), refl)
+  judging ok Nowhere Nowhere e q = (record { passes = ok; hold = e; stay = all-stay rs (c .words) f q }, refl)
 
   module _ (p59 : brokenRecord clocks rs ≡ Nowhere) where
     ticks : brokenWord rs (c .words) ≡ Nowhere → (x : Bool) → ltb f (2 ^ clocks) ≡ x → Answers (refusesAt TickSet (cond x Nowhere (at 0)) c judges)
     unfolding judged
-    ticks p60 true u = judging (record { records = p59; words = p60; ticks = ltb-true f (2 ^ clocks) u }) _ _ refl refl
+    ticks p60 true u =
+        judging (record { records = p59; words = p60; ticks = ltb-true f (2 ^ clocks) u }) (firstFailing (bits f) 1 rs (c .words)) (firstPast 1 rs after)
+        (found (holding rs (c .words) f) 1 rs (c .words)) (found inMillion 1 rs after)
     ticks p60 false u = (by-ticks p59 p60 (ltb-false f (2 ^ clocks) u), refl)
 
     words : (x : Broken) → brokenWord rs (c .words) ≡ x → Answers (refusesAt ConfigurationWord x c (refusesAt TickSet (beyondClocks clocks f) c judges))
@@ -112,15 +203,15 @@ module _ (clocks : ℕ) (rs : List Constraint) (c : Configuration) (f : ℕ) whe
   refuses-step (by-records e) = rw e
   refuses-step (by-words e q) = rw (e, q)
   refuses-step (by-ticks e q u) = rw (e, q, le-ltb f (2 ^ clocks) u)
-  refuses-step (by-million ok h g) = rw (passed ok, h, g)
+  refuses-step (by-million ok h g) = rw (passed ok, none-found (holding rs (c .words) f) 1 rs (c .words) h, first-past rs (c .words) f g)
 
   violates-step : {p : ℕ} → StepViolates clocks rs (c .words) f p → stepOf clocks rs c f .said ≡ violated p
   unfolding judged
-  violates-step v = rw (passed (v .passes), v .fails)
+  violates-step v = rw (passed (v .passes), first-fails rs (c .words) f (v .fails))
 
   accepts-step : StepAccepts clocks rs (c .words) f → stepOf clocks rs c f .said ≡ accepted
   unfolding judged
-  accepts-step a = rw (passed (a .passes), a .holds, a .stays)
+  accepts-step a = rw (passed (a .passes), none-found (holding rs (c .words) f) 1 rs (c .words) (a .hold), none-past rs (c .words) f (a .stay))
 
   given : (t : StepTold) (s : StepSaid) → Answering t s → (s ≡ accepted → ⊥) → t .configuration ≡ c
   given t accepted a n = absurd (n refl)

@@ -1,17 +1,18 @@
 -- What a single step answers, and when: refused, violated, accepted, each exactly then (document 01, "Where each refusal is checked", its last
 -- three rows). The proofs stand in proofs/AnswerLaws. Assumes nothing.
 use mathlib.Core.Path.{_≡_}
+use mathlib.Core.Bool.{true}
 use mathlib.Core.Logic.{_↔_}
 use mathlib.Core.List.{List}
-use Prim.Native.Nat.{ℕ, _^_, _<_, _≤_}
+use Prim.Native.Nat.{ℕ, _+_, _^_, _<_, _≤_}
 use lib.IntN.{pos}
 use lib.ListN.{length}
 use Rattle.limit.specs.Limit.{numberOf}
 use Rattle.limit.specs.declared.Limit.the-variants.{Records, ConfigurationWord, TickSet, Million}
 use Rattle.limit.specs.declared.Place.{Place}
-use Rattle.constraint.specs.Lists.{at, brokenRecord, brokenWord}
-use Rattle.constraint.specs.Meaning.{word, nextWord}
-use Rattle.constraint.specs.Million.{firstPast}
+use Rattle.constraint.specs.Lists.{brokenRecord, brokenWord}
+use Rattle.constraint.specs.Meaning.{word, holds, nextWord}
+use Rattle.constraint.specs.Million.{inMillion}
 use Rattle.constraint.specs.SamePlace.{recordAt, wordAt}
 use Rattle.constraint.specs.Ticks.{bits}
 use Rattle.constraint.specs.declared.Broken.the-variants.{Nowhere, At}
@@ -19,7 +20,32 @@ use Rattle.constraint.specs.declared.Configuration.{Configuration}
 use Rattle.constraint.specs.declared.Constraint.{Constraint}
 use Rattle.constraint.specs.declared.Word.{Word}
 use Rattle.judging.specs.Single.{stepOf, accepted, violated, refused}
-use Rattle.judging.specs.Step.{firstFailing, moved}
+
+-- ---- one record and its word, by their index from 0
+
+abbrev pub HasBoth : List Constraint → List Word → ℕ → Type 0
+HasBoth rs ws i = (i < length rs) × (i < length ws)
+
+-- record i allows the step; and its word after the step is within its million
+abbrev pub Holds : List Constraint → List Word → (ticks : ℕ) → ℕ → Type 0
+Holds rs ws f i = holds (recordAt rs i) (wordAt ws i) (bits f) ≡ true
+
+abbrev pub Stays : List Constraint → List Word → (ticks : ℕ) → ℕ → Type 0
+Stays rs ws f i = inMillion (recordAt rs i) (nextWord (recordAt rs i) (wordAt ws i) (bits f)) ≡ true
+
+-- all records do
+abbrev pub All : List Constraint → List Word → (ℕ → Type 0) → Type 0
+All rs ws P = (i : ℕ) → HasBoth rs ws i → P i
+
+-- the record at a place, from 1, is the first that does not
+pub record FirstNot (rs : List Constraint) (ws : List Word) (P : ℕ → Type 0) (place : ℕ) : Type 0 where
+  pub index : ℕ
+  pub at : place ≡ 1 + index
+  pub there : HasBoth rs ws index
+  pub before : (i : ℕ) → i < index → P i
+  pub here : P index → ⊥
+
+-- ---- when a step is refused, violated, accepted
 
 -- 59, 60 and 61 let the step pass
 pub record Passes (clocks : ℕ) (rs : List Constraint) (ws : List Word) (f : ℕ) : Type 0 where
@@ -32,22 +58,18 @@ pub data StepRefuses (clocks : ℕ) (rs : List Constraint) (ws : List Word) (f :
   by-records : {p : Place} → brokenRecord clocks rs ≡ At p → StepRefuses clocks rs ws f (numberOf Records) (p .0)
   by-words : {p : Place} → brokenRecord clocks rs ≡ Nowhere → brokenWord rs ws ≡ At p → StepRefuses clocks rs ws f (numberOf ConfigurationWord) (p .0)
   by-ticks : brokenRecord clocks rs ≡ Nowhere → brokenWord rs ws ≡ Nowhere → 2 ^ clocks ≤ f → StepRefuses clocks rs ws f (numberOf TickSet) 0
-  by-million : {p : Place}
-      → Passes clocks rs ws f
-      → firstFailing (bits f) 1 rs ws ≡ Nowhere
-      → firstPast 1 rs (moved (bits f) rs ws) ≡ At p
-      → StepRefuses clocks rs ws f (numberOf Million) (p .0)
+  by-million : {p : ℕ} → Passes clocks rs ws f → All rs ws (Holds rs ws f) → FirstNot rs ws (Stays rs ws f) p → StepRefuses clocks rs ws f (numberOf Million) p
 
 -- violated: the record at this place is the first that fails
 pub record StepViolates (clocks : ℕ) (rs : List Constraint) (ws : List Word) (f place : ℕ) : Type 0 where
   pub passes : Passes clocks rs ws f
-  pub fails : firstFailing (bits f) 1 rs ws ≡ at place
+  pub fails : FirstNot rs ws (Holds rs ws f) place
 
 -- accepted: every constraint holds, and no word leaves its million
 pub record StepAccepts (clocks : ℕ) (rs : List Constraint) (ws : List Word) (f : ℕ) : Type 0 where
   pub passes : Passes clocks rs ws f
-  pub holds : firstFailing (bits f) 1 rs ws ≡ Nowhere
-  pub stays : firstPast 1 rs (moved (bits f) rs ws) ≡ Nowhere
+  pub hold : All rs ws (Holds rs ws f)
+  pub stay : All rs ws (Stays rs ws f)
 
 -- ---- the claims: exactly then; what is not accepted hands back the configuration that it was given; what is accepted moves every word by the
 -- rules, and leaves those beyond the records 0
