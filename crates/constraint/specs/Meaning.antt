@@ -1,5 +1,6 @@
 -- What one constraint means: document 01, "Table text", its table of forms row by row. In every row w is the constraint's word
 -- before the step, and a, b and c say whether that clock is in the step's tick set F. Assumes nothing.
+use mathlib.Core.Path.{_≡_, refl}
 use mathlib.Core.Bool.{Bool, true, false, not, cond, _&&_, _||_, Bool·beq}
 use mathlib.Core.List.{List, [], _∷_, _++_}
 use Prim.Native.Nat.{ℕ, zero, suc}
@@ -238,3 +239,17 @@ clocksFit clocks is = allBelow clocks is && distinct is
 
 abbrev pub wellFormed : ℕ → Constraint → Bool
 wellFormed clocks r = clocksFit clocks (clocksOf r) && parameterFits (counterOf (r .kind)) (r .parameter)
+
+-- ---- some rows: lub with b behind; a sampling that waits for b; the words of an await; what an await names
+
+lub-behind : due Lub (word (pos 1)) false true ≡ true
+lub-behind = refl
+
+sampled-waits : change Sample (word (pos 1)) true true ≡ Zero
+sampled-waits = refl
+
+await-words : counterRange Countdown (record { 0 = 3 }) ≡ record { start = pos 3; low = pos 0; high = pos 3 }
+await-words = refl
+
+await-names : named {A = ℕ} (Defines Await) 0 1 2 ≡ 2 ∷ 0 ∷ []
+await-names = refl

@@ -1,8 +1,8 @@
 -- The same-place question and demand 3: document 01, "Same place". Assumes nothing.
-use mathlib.Core.Path.{_≡_}
+use mathlib.Core.Path.{_≡_, refl}
 use mathlib.Core.Logic.{_↔_}
 use mathlib.Core.Bool.{Bool, true, false, not, cond, _&&_}
-use mathlib.Core.List.{List, [], _∷_}
+use mathlib.Core.List.{List, [], _∷_, map}
 use Prim.Native.Nat.{ℕ, _<_}
 use lib.Dec.{eqb}
 use lib.IntN.{ℤ, pos, negsuc}
@@ -11,12 +11,15 @@ use Rattle.limit.specs.Limit.{numberOf}
 use Rattle.limit.specs.declared.Limit.{Limit}
 use Rattle.limit.specs.declared.Limit.the-variants.{Records, ConfigurationWord}
 use Rattle.limit.specs.declared.Place.{Place}
+use Rattle.constraint.specs.Edges.{a, b, constraint, set}
 use Rattle.constraint.specs.Lists.{empty, brokenRecord, brokenWord}
 use Rattle.constraint.specs.Meaning.{word, holds, nextWord}
 use Rattle.constraint.specs.Ticks.{Ticks, Below}
 use Rattle.constraint.specs.declared.Broken.{Broken}
 use Rattle.constraint.specs.declared.Broken.the-variants.{Nowhere, At}
 use Rattle.constraint.specs.declared.Constraint.{Constraint}
+use Rattle.constraint.specs.declared.Kind.the-variants.{Relates}
+use Rattle.constraint.specs.declared.Relation.the-variants.{Precedes}
 use Rattle.constraint.specs.declared.SamePlace.{SamePlace}
 use Rattle.constraint.specs.declared.SamePlace.the-variants.{Refused, Same, Different}
 use Rattle.constraint.specs.declared.Word.{Word}
@@ -128,3 +131,22 @@ SamePlaceMeant = (clocks : ℕ) (rs : List Constraint) (ws vs : List Word) → l
 pub record Answered (clocks : ℕ) (rs : List Constraint) (ws vs : List Word) (said : Answer) : Type 0 where
   pub given : said ≡ samePlaceOf clocks rs ws vs
   pub meant : Demand3 clocks rs ws vs said
+
+-- ---- document 01: from precedes with w 0 the list {a}, {b} is accepted and {b}, {a} is not; with w 1 both are
+
+abbrev precedes : Constraint
+precedes = constraint (Relates Precedes)
+
+a-then-b : map (λ z. accepts precedes (word z) (set (a ∷ []) ∷ set (b ∷ []) ∷ [])) (pos 0 ∷ pos 1 ∷ []) ≡ true ∷ true ∷ []
+a-then-b = refl
+
+b-then-a : map (λ z. accepts precedes (word z) (set (b ∷ []) ∷ set (a ∷ []) ∷ [])) (pos 0 ∷ pos 1 ∷ []) ≡ false ∷ true ∷ []
+b-then-a = refl
+
+-- two words of it; 59 before 60; 60 of the first configuration before that of the second
+answers :
+    map (λ c. samePlaceOf c (precedes ∷ []) (word (pos 1) ∷ []) (word (pos 1) ∷ [])) (2 ∷ 1 ∷ []) ≡ same ∷ refused 59 1 ∷ []
+answers = refl
+
+answers-60 : samePlaceOf 2 (precedes ∷ empty ∷ []) (word (pos 0) ∷ word (pos 1) ∷ []) (word (negsuc 0) ∷ word (pos 0) ∷ []) ≡ refused 60 2
+answers-60 = refl
