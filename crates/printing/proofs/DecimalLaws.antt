@@ -88,24 +88,29 @@ value-digits =
     (λ n h. omega (arith, value-last [] 0 (n % 10), value-none (n % 10)))
     (λ n h ds e. omega (arith, value-last ds 0 (n % 10)))
 
-digit-is : (d : ℕ) → d < 10 → digit (48 + d) ≡ true
-digit-is d h = rw (le-leb 48 (48 + d) (omega arith), le-leb (48 + d) 57 (omega arith))
+-- what holds of the ten digits holds of all digits of a number
+module _ (p : ℕ → Bool) (ten : (d : ℕ) → d < 10 → p (48 + d) ≡ true) where
+  all-last : (ds : List ℕ) (d : ℕ) → allBytes p ds ≡ true → d < 10 → allBytes p (ds ++ (48 + d) ∷ []) ≡ true
+  unfolding allBytes
+  all-last [] d g h = rw (ten d h)
+  all-last (e ∷ ds) d g h = go (p e) g (all-last ds d)
+    where
+      go : (t : Bool) → (t && allBytes p ds) ≡ true → (allBytes p ds ≡ true → d < 10 → allBytes p (ds ++ (48 + d) ∷ []) ≡ true) → (t && allBytes p (ds ++ (48 + d) ∷ [])) ≡ true
+      go true g ih = ih g h
+      go false g ih = g
 
-all-last : (ds : List ℕ) (d : ℕ) → allBytes digit ds ≡ true → d < 10 → allBytes digit (ds ++ (48 + d) ∷ []) ≡ true
-unfolding allBytes
-all-last [] d g h = rw (digit-is d h)
-all-last (e ∷ ds) d g h = go (digit e) g (all-last ds d)
-  where
-    go : (t : Bool) → (t && allBytes digit ds) ≡ true → (allBytes digit ds ≡ true → d < 10 → allBytes digit (ds ++ (48 + d) ∷ []) ≡ true) → (t && allBytes digit (ds ++ (48 + d) ∷ [])) ≡ true
-    go true g ih = ih g h
-    go false g ih = g
+  pub digits-are : (n : ℕ) → allBytes p (digits n) ≡ true
+  digits-are =
+      of-digits
+      (λ n ds. allBytes p ds ≡ true)
+      (λ n h. all-last [] (n % 10) (unfold allBytes in refl) (omega arith))
+      (λ n h ds e. all-last ds (n % 10) e (omega arith))
 
 pub digits-all : (n : ℕ) → allBytes digit (digits n) ≡ true
-digits-all =
-    of-digits
-    (λ n ds. allBytes digit ds ≡ true)
-    (λ n h. all-last [] (n % 10) (unfold allBytes in refl) (omega arith))
-    (λ n h ds e. all-last ds (n % 10) e (omega arith))
+digits-all = digits-are digit (λ d h. rw (le-leb 48 (48 + d) (omega arith), le-leb (48 + d) 57 (omega arith)))
+
+pub digits-once : (m n : ℕ) → digits m ≡ digits n → m ≡ n
+digits-once m n e = sym (value-digits m) ∙ ap (λ (l : List ℕ). value 0 l) e ∙ value-digits n
 
 -- ---- how many they are
 
