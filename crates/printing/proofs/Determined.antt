@@ -1,21 +1,21 @@
 -- The text determines what was told: its words have no parting byte, so that a line has one reading as words, and the digits say the number.
 -- Assumes nothing.
-use Prim.Native.Nat.{ℕ, suc, _+_, _≤_, _<_}
+use Prim.Native.Nat.{ℕ, suc, _+_, _≤_}
 use mathlib.Core.Path.{_≡_, refl, sym, ap, _∙_}
 use mathlib.Core.List.{List, [], _∷_, _++_, map, append-assoc}
-use mathlib.Core.Bool.{Bool, true, false, _&&_, false≢true, and-eq-true-iff}
+use mathlib.Core.Bool.{true, false, false≢true, and-eq-true-iff}
 use native.Mathlib.Omega.{arith}
 use borrow.Author.Tests.{le-leb, leb-true}
 use lib.Dec.{leb}
 use lib.IntN.{ℤ, pos, negsuc}
 use Rattle.constraint.specs.Meaning.{word}
 use Rattle.constraint.specs.declared.Word.{Word}
-use Rattle.monitor.specs.Run.{Told, Said, accepted, violated, refused}
+use Rattle.monitor.specs.Run.{Said, accepted, violated, refused}
 use Rattle.text.specs.Ascii.{ascii}
 use Rattle.text.specs.Bytes.{digit, allBytes}
 use Rattle.printing.specs.Decimal.{digits, signed}
-use Rattle.printing.specs.Determined.{Alike, TextDetermines}
-use Rattle.printing.specs.Printed.{rest, line, verdictLine, stepsLine, configLine, wordText, printed, shown}
+use Rattle.printing.specs.Determined.{TextDetermines}
+use Rattle.printing.specs.Printed.{rest, line, verdictLine, stepsLine, configLine, wordText, shown}
 use Rattle.printing.proofs.DecimalLaws.{digits-are, digits-all, digits-once}
 
 -- ---- words and lines

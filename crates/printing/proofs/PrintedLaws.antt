@@ -14,8 +14,8 @@ use Rattle.constraint.specs.Meaning.{negative}
 use Rattle.constraint.specs.declared.Word.{Word}
 use Rattle.monitor.specs.Run.{Told}
 use Rattle.printing.specs.Decimal.{digits, signed}
-use Rattle.printing.specs.Printed.{rest, wordText, printed}
-use Rattle.printing.specs.Put.{Put, Begins}
+use Rattle.printing.specs.Printed.{rest, wordText, printed, Begins}
+use Rattle.printing.specs.Put.{Put}
 use Rattle.printing.proofs.PutLaws.{Left, left-then, left-none, put-byte}
 
 -- ---- a word, by its sign and how far it is from 0

@@ -7,7 +7,8 @@ use native.Mathlib.Omega.{arith}
 use lib.ListN.{length, drop, getD, set, length-append, drop-of-length-le}
 use lib.Seq.{sets, length-sets, sets-eq, take-at, drop-at, length-take-le}
 use Rattle.text.proofs.Bytes.{drop-next}
-use Rattle.printing.specs.Put.{Put, Begins}
+use Rattle.printing.specs.Printed.{Begins}
+use Rattle.printing.specs.Put.{Put}
 
 sets-append : (a b l : List ℕ) (i : ℕ) → sets l i (a ++ b) ≡ sets (sets l i a) (i + length a) b
 sets-append [] b l i = let z : i + 0 ≡ i = omega arith in rw z

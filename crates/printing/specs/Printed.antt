@@ -2,12 +2,12 @@
 -- nothing.
 use mathlib.Core.Path.{_≡_, refl}
 use mathlib.Core.List.{List, [], _∷_, _++_, map}
-use Prim.Native.Nat.{ℕ}
+use Prim.Native.Nat.{ℕ, _≤_}
 use lib.IntN.{pos, negsuc}
-use lib.ListN.{take, replicate}
+use lib.ListN.{length, take, drop, replicate}
 use Rattle.constraint.specs.Meaning.{word}
 use Rattle.constraint.specs.declared.Word.{Word}
-use Rattle.monitor.specs.Run.{Told, Said, accepted, violated, refused}
+use Rattle.monitor.specs.Run.{Told, Said, accepted, violated, refused, zeros}
 use Rattle.text.specs.Ascii.{ascii}
 use Rattle.printing.specs.Decimal.{digits, digitsOf, signed}
 
@@ -45,14 +45,22 @@ shown t = take (t .constraints) (t .configuration .words)
 abbrev pub printed : Told → List ℕ
 printed t = verdictLine (t .said) ++ stepsLine (t .steps) ++ configLine (shown t)
 
+-- ---- the text in a buffer: its first n bytes are the text, and those behind them are as they were
+
+pub record Begins (before text after : List ℕ) (n : ℕ) : Type 0 where
+  pub front : take n after ≡ text
+  pub behind : drop n after ≡ drop n before
+  pub within : n ≤ length after
+  pub counts : n ≡ length (take n after)
+
 -- ---- document 01's example; a refused table; a negative word
 
-first-lesson : printed (record { said = violated 1 9; steps = 4; constraints = 2; configuration = record { words = replicate 64 (word (pos 0)) } })
+first-lesson : printed (record { said = violated 1 9; steps = 4; constraints = 2; configuration = zeros })
     ≡ ascii "violated 1 9\nsteps 4\nconfig 0 0\n"
 unfolding digits digitsOf
 first-lesson = refl
 
-refused-table : printed (record { said = refused 12 3; steps = 0; constraints = 0; configuration = record { words = replicate 64 (word (pos 0)) } })
+refused-table : printed (record { said = refused 12 3; steps = 0; constraints = 0; configuration = zeros })
     ≡ ascii "refused 12 3\nsteps 0\nconfig\n"
 unfolding digits digitsOf
 refused-table = refl

@@ -21,13 +21,12 @@ ghost use lib.ListN.{length, take};
 ghost use Rattle.limit.specs.Limit.{numberOf};
 ghost use Rattle.monitor.specs.Run as run;
 ghost use Rattle.printing.specs.Printed as p;
-ghost use Rattle.printing.specs.Put.{Put, Begins};
+ghost use Rattle.printing.specs.Put.{Short};
 
 // `violated`, table line and time.
 fn violated(out: &mut [u8], at: usize, line: Place, time: Time) -> usize
     requires { ⌜ at + 51 ≤ length (now out) ⌝ }
-    ensures { λ r. ⌜ Put (now (out .entry)) at (p.verdictLine (run.violated (line .0) (time .0))) (now (out .exit)) r ⌝ }
-    ensures { λ r. ⌜ r ≤ at + 51 ⌝ }
+    ensures { λ r. ⌜ Short 51 (now (out .entry)) at (p.verdictLine (run.violated (line .0) (time .0))) (now (out .exit)) r ⌝ }
 {
     let a = put_text(out, at, b"violated");
     let b = put_place(out, a, line);
@@ -38,8 +37,7 @@ fn violated(out: &mut [u8], at: usize, line: Place, time: Time) -> usize
 // `refused`, number and place.
 fn refused(out: &mut [u8], at: usize, refusal: Refusal) -> usize
     requires { ⌜ at + 51 ≤ length (now out) ⌝ }
-    ensures { λ r. ⌜ Put (now (out .entry)) at (p.verdictLine (run.refused (numberOf (refusal .limit)) (refusal .place .0))) (now (out .exit)) r ⌝ }
-    ensures { λ r. ⌜ r ≤ at + 51 ⌝ }
+    ensures { λ r. ⌜ Short 51 (now (out .entry)) at (p.verdictLine (run.refused (numberOf (refusal .limit)) (refusal .place .0))) (now (out .exit)) r ⌝ }
 {
     let limit = refusal.limit;
     let place = refusal.place;
@@ -51,8 +49,7 @@ fn refused(out: &mut [u8], at: usize, refusal: Refusal) -> usize
 
 fn verdict_line(out: &mut [u8], at: usize, verdict: Verdict) -> usize
     requires { ⌜ at + 51 ≤ length (now out) ⌝ }
-    ensures { λ r. ⌜ Put (now (out .entry)) at (p.verdictLine (run.said verdict)) (now (out .exit)) r ⌝ }
-    ensures { λ r. ⌜ r ≤ at + 51 ⌝ }
+    ensures { λ r. ⌜ Short 51 (now (out .entry)) at (p.verdictLine (run.said verdict)) (now (out .exit)) r ⌝ }
 {
     match verdict {
         Verdict::Accepted => put_text(out, at, b"accepted\n"),
@@ -63,8 +60,7 @@ fn verdict_line(out: &mut [u8], at: usize, verdict: Verdict) -> usize
 
 fn steps_line(out: &mut [u8], at: usize, steps: Steps) -> usize
     requires { ⌜ at + 27 ≤ length (now out) ⌝ }
-    ensures { λ r. ⌜ Put (now (out .entry)) at (p.stepsLine (steps .0)) (now (out .exit)) r ⌝ }
-    ensures { λ r. ⌜ r ≤ at + 27 ⌝ }
+    ensures { λ r. ⌜ Short 27 (now (out .entry)) at (p.stepsLine (steps .0)) (now (out .exit)) r ⌝ }
 {
     let a = put_text(out, at, b"steps");
     let b = put_steps(out, a, steps);
@@ -74,8 +70,7 @@ fn steps_line(out: &mut [u8], at: usize, steps: Steps) -> usize
 // The first words of a configuration, each behind a space, and the line's end.
 fn put_words(out: &mut [u8], at: usize, words: [Word; 64], count: usize) -> usize
     requires { ⌜ (count ≤ 64) × (at + 1345 ≤ length (now out)) ⌝ }
-    ensures { λ r. ⌜ Put (now (out .entry)) at (p.rest (map p.wordText (take count words))) (now (out .exit)) r ⌝ }
-    ensures { λ r. ⌜ r ≤ at + 1345 ⌝ }
+    ensures { λ r. ⌜ Short 1345 (now (out .entry)) at (p.rest (map p.wordText (take count words))) (now (out .exit)) r ⌝ }
 {
     let mut to = at;
     let mut i = 0;
@@ -96,8 +91,7 @@ fn shown(constraints: usize) -> usize
 
 fn config_line(out: &mut [u8], at: usize, configuration: Configuration, constraints: usize) -> usize
     requires { ⌜ at + 1351 ≤ length (now out) ⌝ }
-    ensures { λ r. ⌜ Put (now (out .entry)) at (p.configLine (take constraints (configuration .words))) (now (out .exit)) r ⌝ }
-    ensures { λ r. ⌜ r ≤ at + 1351 ⌝ }
+    ensures { λ r. ⌜ Short 1351 (now (out .entry)) at (p.configLine (take constraints (configuration .words))) (now (out .exit)) r ⌝ }
 {
     let words = configuration.words;
     let a = put_text(out, at, b"config");
@@ -106,7 +100,7 @@ fn config_line(out: &mut [u8], at: usize, configuration: Configuration, constrai
 
 // Puts the three lines of a report at the front of a buffer, and answers how many bytes they have.
 pub fn report_text(report: Report, buffer: &mut [u8; ROOM]) -> usize
-    ensures { λ r. ⌜ Begins (now (buffer .entry)) (p.printed (run.told report)) (now (buffer .exit)) r ⌝ }
+    ensures { λ r. ⌜ p.Begins (now (buffer .entry)) (p.printed (run.told report)) (now (buffer .exit)) r ⌝ }
 {
     let verdict = report.verdict;
     let steps = report.steps;
@@ -119,7 +113,7 @@ pub fn report_text(report: Report, buffer: &mut [u8; ROOM]) -> usize
 
 // Puts what the program prints of a table and a recording at the front of a buffer, and answers how many bytes that are.
 pub fn run_text(table: &[u8], recording: &[u8], buffer: &mut [u8; ROOM]) -> usize
-    ensures { λ r. ⌜ Begins (now (buffer .entry)) (p.printed (run.runOf (now (table .entry)) (now (recording .entry)))) (now (buffer .exit)) r ⌝ }
+    ensures { λ r. ⌜ p.Begins (now (buffer .entry)) (p.printed (run.runOf (now (table .entry)) (now (recording .entry)))) (now (buffer .exit)) r ⌝ }
 {
     report_text(monitor::run(table, recording), buffer)
 }

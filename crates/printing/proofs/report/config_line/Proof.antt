@@ -16,7 +16,7 @@ returns c =
     let words = c .before .before in
     let label = words .before .before .before .before .before in
     let s = label .before .before .before .before .before in
-    (rw (← take-shown (s .args .configuration .words) (s .args .constraints) 64 (sized s), ← words .before .shown .ensures) (put-then (label .put-text .ensures) (words .put-words .ensures .0)), search needs)
+    record { put = rw (← take-shown (s .args .configuration .words) (s .args .constraints) 64 (sized s), ← words .before .shown .ensures) (put-then (label .put-text .ensures) (words .put-words .ensures .put)); short = search needs }
 
 pub config-line-spec : {M : Type 1} → statement M
 config-line-spec =

@@ -26,7 +26,7 @@ loop-again c =
     let l = p .before .before .before .before in
     let ws = l .before .before .args .t3 in
     let e : length ws ≡ 64 = search needs in
-    (omega arith, omega arith, left-word ws _ _ _ (omega arith) (l .loop .inv .2) (p .before .before .before .loop-test .taken) (p .put-word .ensures .0))
+    (omega arith, omega arith, left-word ws _ _ _ (omega arith) (l .loop .inv .2) (p .before .before .before .loop-test .taken) (p .put-word .ensures .put))
 
 -- the line's end is put last
 whole : (c : tie.After-loop Inv-loop μ-loop) → Put (c .before .before .before .args .out .now) (c .before .before .before .args .at) (rest (texts (c .before .before .before .args .t3) (c .before .before .before .args .count))) (set (c .before .loop .out) (c .before .loop .to) 10) (c .before .loop .to + 1)
@@ -51,4 +51,4 @@ put-words-spec =
     (λ c. omega arith)
     (λ c. omega arith)
     (λ c. put-length (whole c))
-    (λ c. (whole c, omega arith)))
+    (λ c. record { put = whole c; short = omega arith }))

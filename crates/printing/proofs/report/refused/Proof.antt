@@ -10,7 +10,7 @@ returns c =
     let place = end .before .before .before .before .before in
     let limit = place .before .before .before .before in
     let word = limit .before .before .before .before in
-    (put-then (word .put-text .ensures) (put-then (limit .put-limit .ensures .0) (put-then (place .put-place .ensures .0) (end .put-text2 .ensures))), search needs)
+    record { put = put-then (word .put-text .ensures) (put-then (limit .put-limit .ensures .put) (put-then (place .put-place .ensures .put) (end .put-text2 .ensures))); short = search needs }
 
 pub refused-spec : {M : Type 1} → statement M
 refused-spec =

@@ -8,7 +8,7 @@ returns : tie.Need-returns
 returns c =
     let steps = c .before .before in
     let verdict = steps .before .before in
-    begins (put-then (put-then (verdict .verdict-line .ensures .0) (steps .steps-line .ensures .0)) (c .config-line .ensures .0)) (search needs)
+    begins (put-then (put-then (verdict .verdict-line .ensures .put) (steps .steps-line .ensures .put)) (c .config-line .ensures .put)) (search needs)
 
 pub report-text-spec : {M : Type 1} → statement M
 report-text-spec =

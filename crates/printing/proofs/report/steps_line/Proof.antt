@@ -9,7 +9,7 @@ returns c =
     let end = c .before .before in
     let steps = end .before .before .before .before .before in
     let word = steps .before .before .before .before in
-    (put-then (word .put-text .ensures) (put-then (steps .put-steps .ensures .0) (end .put-text2 .ensures)), search needs)
+    record { put = put-then (word .put-text .ensures) (put-then (steps .put-steps .ensures .put) (end .put-text2 .ensures)); short = search needs }
 
 pub steps-line-spec : {M : Type 1} → statement M
 steps-line-spec =

@@ -15,7 +15,7 @@ verdict-line-spec =
     (λ c. search needs)
     (λ c κs. search needs)
     (λ c. search needs)
-    (λ c. (rw (c .before .before .before .before .before .enum-told .given .1) (c .before .before .put-text .ensures), search needs))
+    (λ c. record { put = rw (c .before .before .before .before .before .enum-told .given .1) (c .before .before .put-text .ensures); short = search needs })
     (λ c. search needs)
     (λ c. rw (c .before .before .before .before .before .verdict .given .1) (c .before .before .violated .ensures))
     (λ c. search needs)

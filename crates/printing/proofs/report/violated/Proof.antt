@@ -10,7 +10,7 @@ returns c =
     let time = end .before .before .before .before .before in
     let place = time .before .before .before .before in
     let word = place .before .before .before .before in
-    (put-then (word .put-text .ensures) (put-then (place .put-place .ensures .0) (put-then (time .put-time .ensures .0) (end .put-text2 .ensures))), search needs)
+    record { put = put-then (word .put-text .ensures) (put-then (place .put-place .ensures .put) (put-then (time .put-time .ensures .put) (end .put-text2 .ensures))); short = search needs }
 
 pub violated-spec : {M : Type 1} → statement M
 violated-spec =

@@ -11,4 +11,4 @@ put-limit-spec =
     (λ c. search needs)
     (λ c κs. search needs)
     (λ c. search needs)
-    (λ c. (rw (← c .before .before .before .number .ensures) (c .before .before .spaced .ensures .0), c .before .before .spaced .ensures .1)))
+    (λ c. rw (← c .before .before .before .number .ensures) (c .before .before .spaced .ensures)))

@@ -32,7 +32,7 @@ returns c =
     let m = t .before .before .before .before .before in
     let z = m .before .before .args .w .0 in
     let e = signed-below z (m .magnitude .ensures) (sym (t .before .before .before .before .below .ensures) ∙ t .before .before .before .if1 .taken) in
-    (rw e (put-then (t .put-text .ensures) (p .put-number .ensures)), omega (arith, few m, t .put-text .ensures .ends, p .put-number .ensures .ends))
+    record { put = rw e (put-then (t .put-text .ensures) (p .put-number .ensures)); short = omega (arith, few m, t .put-text .ensures .ends, p .put-number .ensures .ends) }
 
 returns-2 : tie.Need-returns-2
 returns-2 c =
@@ -40,7 +40,7 @@ returns-2 c =
     let m = p .before .before .before .before in
     let z = m .before .before .args .w .0 in
     let e = signed-above z (m .magnitude .ensures) (sym (p .before .before .before .below .ensures) ∙ p .before .before .if1 .left) in
-    (rw e (p .spaced .ensures .0), p .spaced .ensures .1)
+    rw e (p .spaced .ensures)
 
 pub put-word-spec : {M : Type 1} → statement M
 put-word-spec =

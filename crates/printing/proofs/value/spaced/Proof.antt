@@ -22,7 +22,7 @@ both c = put-then (put-byte _ _ 32) (c .put-number .ensures)
 returns : tie.Need-returns
 returns c =
     let p = c .before .before in
-    (both p, omega (arith, both p .ends, digits-of-64 (p .before .before .before .args .n) (search needs)))
+    record { put = both p; short = omega (arith, both p .ends, digits-of-64 (p .before .before .before .args .n) (search needs)) }
 
 pub spaced-spec : {M : Type 1} → statement M
 spaced-spec =
