@@ -1,0 +1,4 @@
+pub mod Decimal
+pub mod Determined
+pub mod Printed
+pub mod Put
