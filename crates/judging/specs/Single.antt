@@ -1,19 +1,24 @@
 -- The single step on any list of records, clock count, configuration and tick set: document 01, "Where each refusal is checked", its last
 -- three rows. Assumes nothing.
-use mathlib.Core.Path.{_≡_}
+use mathlib.Core.Path.{_≡_, refl}
 use mathlib.Core.Bool.{cond}
-use mathlib.Core.List.{List}
+use mathlib.Core.List.{List, [], _∷_}
 use Prim.Native.Nat.{ℕ, _^_}
 use lib.Dec.{ltb}
+use lib.IntN.{ℤ, pos}
 use Rattle.limit.specs.Limit.{numberOf}
 use Rattle.limit.specs.declared.Limit.{Limit}
 use Rattle.limit.specs.declared.Limit.the-variants.{Records, ConfigurationWord, TickSet, Million}
 use Rattle.constraint.specs.Lists.{at, brokenRecord, brokenWord}
+use Rattle.constraint.specs.Meaning.{word}
 use Rattle.constraint.specs.Ticks.{bits}
 use Rattle.constraint.specs.declared.Broken.{Broken}
 use Rattle.constraint.specs.declared.Broken.the-variants.{Nowhere, At}
 use Rattle.constraint.specs.declared.Configuration.{Configuration}
 use Rattle.constraint.specs.declared.Constraint.{Constraint}
+use Rattle.constraint.specs.declared.Definition.the-variants.{Await}
+use Rattle.constraint.specs.declared.Kind.the-variants.{Relates, Defines}
+use Rattle.constraint.specs.declared.Relation.the-variants.{StrictlyPrecedes}
 use Rattle.judging.specs.Step.{judged}
 use Rattle.judging.specs.declared.Judged.{Judged}
 use Rattle.judging.specs.declared.Outcome.{Outcome}
@@ -71,3 +76,36 @@ stepOf clocks rs c f =
     (refusesAt ConfigurationWord (brokenWord rs (c .words)) c
     (refusesAt TickSet (beyondClocks clocks f) c
     (judgedTold (judged (bits f) rs c))))
+
+-- ---- document 01's example table, `req strictly precedes ack` and `done clockDef await 2 ack`, with req, ack, done as clocks 0, 1, 2
+
+abbrev pub exampleRecords : List Constraint
+exampleRecords =
+    record { kind = Relates StrictlyPrecedes; defined = 0; first = 0; second = 1; parameter = record { 0 = 0 }; line = record { 0 = 1 } } ∷
+    record { kind = Defines Await; defined = 2; first = 1; second = 0; parameter = record { 0 = 2 }; line = record { 0 = 2 } } ∷
+    []
+
+abbrev from : (w v : ℤ) → Configuration
+from w v = record { words = word w ∷ word v ∷ [] }
+
+-- from the start words: {req}; {req, ack}, in which ack has no req before it; a fourth clock, and a clock count of 2
+req : stepOf 3 exampleRecords (from (pos 0) (pos 2)) 1 ≡ record { said = accepted; configuration = from (pos 1) (pos 2) }
+unfolding stepOf judged
+req = refl
+
+req-and-ack : stepOf 3 exampleRecords (from (pos 0) (pos 2)) 3 ≡ record { said = violated 1; configuration = from (pos 0) (pos 2) }
+unfolding stepOf judged
+req-and-ack = refl
+
+fourth-clock : stepOf 3 exampleRecords (from (pos 0) (pos 2)) 8 .said ≡ refused 61 0
+unfolding stepOf
+fourth-clock = refl
+
+two-clocks : stepOf 2 exampleRecords (from (pos 0) (pos 2)) 1 .said ≡ refused 59 2
+unfolding stepOf
+two-clocks = refl
+
+-- {req} from a million
+past-a-million : stepOf 3 exampleRecords (from (pos 1_000_000) (pos 2)) 1 ≡ record { said = refused 51 1; configuration = from (pos 1_000_000) (pos 2) }
+unfolding stepOf judged
+past-a-million = refl

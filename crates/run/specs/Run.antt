@@ -1,12 +1,13 @@
 -- The whole run: the table is read, then the recording, and the steps are judged one after the other, up to the first that is not accepted
 -- (document 01, "What the monitor does", "Recording" and "Where each refusal is checked"). Assumes nothing.
-use mathlib.Core.Path.{_≡_}
+use mathlib.Core.Path.{_≡_, refl}
+use mathlib.Core.Bool.{true}
 use mathlib.Core.List.{List, [], _∷_}
 use Prim.Native.Nat.{ℕ, suc, _-_}
-use lib.IntN.{pos}
+use lib.IntN.{ℤ, pos}
 use lib.ListN.{getD, replicate}
 use Rattle.limit.specs.Limit.{numberOf}
-use Rattle.limit.specs.declared.Limit.the-variants.{Million}
+use Rattle.limit.specs.declared.Limit.the-variants.{BodyWord, Million}
 use Rattle.limit.specs.declared.Place.{Place}
 use Rattle.constraint.specs.Lists.{empty, slots, startWords}
 use Rattle.constraint.specs.Meaning.{word}
@@ -18,6 +19,7 @@ use Rattle.grammar.specs.declared.Table.{Table}
 use Rattle.recording.specs.Body.{Ending, ended, refusedAt, Reading, reading}
 use Rattle.recording.specs.Variables.{clockNamed}
 use Rattle.recording.specs.declared.Step.{Step}
+use Rattle.judging.specs.Single.{exampleRecords}
 use Rattle.judging.specs.Step.{judged}
 use Rattle.judging.specs.declared.Judged.{Judged}
 use Rattle.judging.specs.declared.Outcome.{Outcome}
@@ -116,3 +118,22 @@ tableOf t = table.readTable t .table
 
 abbrev pub readingBy : (table recording : List ℕ) → Reading
 readingBy t r = readingOf t (tableOf t) r
+
+-- ---- document 01's example: #0 req; #3; #5 ack and req; #8 ack and done; #9 req and ack. It prints `violated 1 9`, `steps 4`, `config 0 0`
+
+abbrev mark : (time ticks : ℕ) → Step
+mark t f = record { begun = true; mark = record { 0 = 0 }; time = record { 0 = t }; ticks = f }
+
+abbrev from : (w v : ℤ) → Configuration
+from w v = record { words = word w ∷ word v ∷ [] }
+
+example-run :
+    judgeAll exampleRecords 0 (from (pos 0) (pos 2)) (mark 0 1 ∷ mark 3 0 ∷ mark 5 3 ∷ mark 8 6 ∷ mark 9 3 ∷ []) ended
+    ≡ record { said = violated 1 9; steps = 4; configuration = from (pos 0) (pos 0) }
+unfolding judgeAll afterStep judged
+example-run = refl
+
+-- its first four steps, and a recording that is refused behind them
+four-steps : judgeAll exampleRecords 0 (from (pos 0) (pos 2)) (mark 0 1 ∷ mark 3 0 ∷ mark 5 3 ∷ mark 8 6 ∷ []) (refusedAt BodyWord 77) .said ≡ refused 40 77
+unfolding judgeAll afterStep judged
+four-steps = refl
