@@ -1,5 +1,6 @@
 pub mod AnswerLaws
 pub mod Elem
+pub mod First66
 pub mod LentArray
 pub mod LentCalls
 pub mod LentLaws

@@ -77,20 +77,6 @@ pub fn at_most(count: usize) -> usize
     66
 }
 
-// The single step, on the first records of an array.
-pub fn step_on(
-    records: [Constraint; 66],
-    count: usize,
-    clocks: u8,
-    configuration: Configuration,
-    ticks: u32,
-) -> Stepped
-    ensures { λ r. ⌜ stepTold r ≡ stepOf clocks (lent count records) configuration ticks ⌝ }
-{
-    let n = at_most(count);
-    step(&records[..n], clocks, configuration, ticks)
-}
-
 // The same-place question, on the first records of an array.
 pub fn same_place_on(
     records: [Constraint; 66],
@@ -121,5 +107,25 @@ pub fn advance_on(
     Advanced {
         answer,
         monitor: moved,
+    }
+}
+
+// The single step, on the first records of an array.
+pub fn step_on(
+    records: [Constraint; 66],
+    count: usize,
+    clocks: u8,
+    configuration: Configuration,
+    ticks: u32,
+) -> Stepped
+    ensures { λ r. ⌜ stepTold r ≡ stepOf clocks (lent count records) configuration ticks ⌝ }
+{
+    let advanced = advance_on(Monitor { configuration }, records, count, clocks, ticks);
+    let answer = advanced.answer;
+    let monitor = advanced.monitor;
+    let after = monitor.configuration;
+    Stepped {
+        answer,
+        configuration: after,
     }
 }
