@@ -14,6 +14,7 @@ use Rattle.limit.specs.declared.Limit.{Limit}
 use Rattle.limit.specs.declared.Limit.the-variants.{Records, ConfigurationWord, TickSet}
 use Rattle.constraint.specs.Lists.{at, recordFits, firstUnfit, brokenRecord, firstOut, brokenWord}
 use Rattle.constraint.specs.Meaning.{wellFormed, inRange, nextWord, definedOf}
+use Rattle.constraint.specs.Million.{firstPast}
 use Rattle.constraint.specs.SamePlace.{Answer, refuseAt, samePlaceOf}
 use Rattle.constraint.specs.Ticks.{none, addingAll, bits}
 use Rattle.constraint.specs.declared.Broken.{Broken}
@@ -135,9 +136,9 @@ failing-found (r ∷ rs) s i h e =
 
 past-found :
     (rs : List Constraint) (s : Survey) (i : ℕ) → Room s i rs → Fine s i rs
-    → surveyed s rs .past ≡ firstOf (s .past) (firstOut (suc i) rs (moved (bits (s .ticks)) rs (drop i (s .before .words))))
+    → surveyed s rs .past ≡ firstOf (s .past) (firstPast (suc i) rs (moved (bits (s .ticks)) rs (drop i (s .before .words))))
 unfolding surveyed visited
-past-found [] s i h e = rw e (nowhere-else (s .past))
+past-found [] s i h e = nowhere-else (s .past)
 past-found (r ∷ rs) s i h e =
     past-found rs (visited s r) (suc i) (room-next s i r rs h) (fine s i r rs h e .1)
     ∙ rw (inside s i r rs h, fine s i r rs h e .0, word-next s i r rs h, h .here) (lowest-first (s .past) _ (suc i) _)

@@ -14,6 +14,7 @@ use lib.Pow.{pow-pos, pow-mono}
 use lib.Seq.{drop-cons}
 use Rattle.constraint.specs.Lists.{at, empty, recordFits, firstOut}
 use Rattle.constraint.specs.Meaning.{holds, nextWord, inRange, definedOf}
+use Rattle.constraint.specs.Million.{inMillion}
 use Rattle.constraint.specs.Ticks.{bits, withTicks}
 use Rattle.constraint.specs.declared.Broken.{Broken}
 use Rattle.constraint.specs.declared.Broken.the-variants.{Nowhere}
@@ -45,7 +46,7 @@ module _
     pub inside-adds :
         {at : ℕ} {v : Word} {failing past : Broken}
         → x ≡ true → at ≡ s .place - 1 → v ≡ nextWord r (wordHere s) (bits (s .ticks))
-        → failing ≡ lowest (s .failing) (holds r (wordHere s) (bits (s .ticks))) (s .place) → past ≡ lowest (s .past) (inRange r v) (s .place)
+        → failing ≡ lowest (s .failing) (holds r (wordHere s) (bits (s .ticks))) (s .place) → past ≡ lowest (s .past) (inMillion r v) (s .place)
         → told s (record { words = set (s .after .words) at v }) (s .place + 1) earlier unfit out failing past ≡ visited s r
     unfolding visited
     inside-adds y a q f g = rw (e, u, o, i, f, g, q, a, le-leb (s .place) 64 h, sym i ∙ y)

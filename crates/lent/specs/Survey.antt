@@ -9,6 +9,7 @@ use lib.ListN.{getD, set, drop}
 use Rattle.limit.specs.declared.Limit.the-variants.{Records, ConfigurationWord, TickSet}
 use Rattle.constraint.specs.Lists.{at, recordFits, firstOut}
 use Rattle.constraint.specs.Meaning.{word, holds, nextWord, inRange, definedOf}
+use Rattle.constraint.specs.Million.{inMillion}
 use Rattle.constraint.specs.SamePlace.{Answer, same, different, refuseAt, sameWords}
 use Rattle.constraint.specs.Ticks.{bits, withTicks}
 use Rattle.constraint.specs.declared.Broken.{Broken}
@@ -53,7 +54,7 @@ visited s r = record {
   unfit = lowest (s .unfit) (recordFits (s .clocks) (bits (s .earlier)) (s .place) r) (s .place);
   out = cond (leb (s .place) 64) (lowest (s .out) (inRange r (wordHere s)) (s .place)) (s .out);
   failing = cond (asks s r) (lowest (s .failing) (holds r (wordHere s) (bits (s .ticks))) (s .place)) (s .failing);
-  past = cond (asks s r) (lowest (s .past) (inRange r (nextWord r (wordHere s) (bits (s .ticks)))) (s .place)) (s .past);
+  past = cond (asks s r) (lowest (s .past) (inMillion r (nextWord r (wordHere s) (bits (s .ticks)))) (s .place)) (s .past);
 }
 
 -- record by record

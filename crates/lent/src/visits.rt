@@ -106,7 +106,7 @@ pub fn visit(survey: Survey, constraint: Constraint) -> Survey
     }
     let failing = lowest(failing, constraint::holds(constraint, w, ticks), place);
     let v = constraint::next_word(constraint, w, ticks);
-    let past = lowest(past, constraint::in_range(constraint, v), place);
+    let past = lowest(past, constraint::in_million(constraint, v), place);
     let mut after = after;
     after.words[i] = v;
     Survey {

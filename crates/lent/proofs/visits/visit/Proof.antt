@@ -45,7 +45,7 @@ returns-3 c =
     (i .index .ensures)
     (n .next-word .ensures ∙ rw (i .index .ensures))
     (n .before .lowest3 .ensures ∙ rw (h .holds .ensures, i .index .ensures))
-    (c .lowest4 .ensures ∙ rw (c .before .in-range2 .ensures))
+    (c .lowest4 .ensures ∙ rw (c .before .in-million .ensures))
 
 pub visit-spec : {M : Type 1} → statement M
 visit-spec =
