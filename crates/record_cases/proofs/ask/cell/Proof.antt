@@ -2,8 +2,8 @@
 use mathlib.Core.Path.{sym, _∙_}
 use borrow.Author.Tests.{not-false}
 use borrow.Author.Needs.{needs}
-use Rattle.constraint_edges.proofs.rules.cell.Statement.{statement}
-use Rattle.constraint_edges.proofs.rules.cell.Tie as tie
+use Rattle.record_cases.proofs.ask.cell.Statement.{statement}
+use Rattle.record_cases.proofs.ask.cell.Tie as tie
 
 next-word-requires : tie.Need-next-word-requires
 next-word-requires c κs =

@@ -1,0 +1,10 @@
+// Asks the calls on records what each line of `data/cases` asks, and prints the answers. What document 01 says of each stands in `stdout`.
+mod ask;
+mod line;
+mod read;
+
+fn main() {
+    let mut buffer = io::large_buffer();
+    let n = console::read_file(b"cases", &mut buffer);
+    line::lines(&buffer[..n]);
+}
