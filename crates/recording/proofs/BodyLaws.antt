@@ -1,4 +1,4 @@
--- A word of the body by its first byte. Assumes nothing.
+-- A word of the body by its first byte, and the body unfolded by one word. Assumes nothing.
 use mathlib.Core.Path.{_≡_, refl, sym, ap, _∙_}
 use mathlib.Core.Bool.{Bool, true, false, false≢true}
 use mathlib.Core.List.{List, [], _∷_}
@@ -8,13 +8,20 @@ use lib.Dec.{eqb}
 use lib.ListN.{length, take, drop, getD}
 use lib.Seq.{take-all}
 use Rattle.limit.specs.declared.Limit.the-variants.{BodyWord}
+use Rattle.limit.specs.declared.Refusal.{Refusal}
 use Rattle.text.specs.Digits.{number}
-use Rattle.recording.specs.Body.{opensMark, levelOf, markTurn, variableTurn, levelTurn, changeTurn, wordTurn}
+use Rattle.text.specs.Split.{bytesOf}
+use Rattle.text.specs.declared.Span.{Span}
+use Rattle.recording.specs.Answers.{turnAs, behindMark}
+use Rattle.recording.specs.Body.{opensMark, levelOf, markTurn, variableTurn, levelTurn, changeTurn, wordTurn, ended, refusedAt, endsWith, closing, onward, bodySteps}
+use Rattle.recording.specs.Header.{words}
 use Rattle.limit.specs.Checked.{stopped}
 use Rattle.recording.specs.Variables.{Variable}
 use Rattle.recording.specs.declared.Level.{Level}
 use Rattle.recording.specs.declared.Level.the-variants.{Tick, NoTick, NoChange}
 use Rattle.recording.specs.declared.Step.{Step}
+use Rattle.recording.specs.declared.Turn.{Turn}
+use Rattle.recording.specs.declared.Turn.the-variants.{Passed, Refused}
 
 pub opens-none : (w : List ℕ) → length w ≡ 0 → false ≡ opensMark w
 opens-none [] e = refl
@@ -35,6 +42,12 @@ tail w = take (length w - 1) (drop 1 w)
 pub behind : (w : List ℕ) → tail w ≡ drop 1 w
 behind [] = refl
 behind (b ∷ bs) = take-all (length (b ∷ bs) - 1) bs (omega arith)
+
+-- a word without bytes is no mark
+pub no-digits : (o : Step) (at : ℕ) (w : List ℕ) → length w ≡ 0 → markTurn o at (number (drop 1 w)) ≡ stopped BodyWord at
+unfolding number
+no-digits o at [] e = refl
+no-digits o at (b ∷ bs) e = absurd (omega arith)
 
 module _ (vs : List Variable) (o : Step) (at : ℕ) (w : List ℕ) where
   pub change-short : length w < 2 → changeTurn vs o at w ≡ stopped BodyWord at
@@ -75,10 +88,26 @@ module _ (vs : List Variable) (o : Step) (at : ℕ) (w : List ℕ) where
         go [] = unfold levelTurn in refl
         go (i ∷ is) = unfold levelTurn in refl
 
-  pub word-mark : opensMark w ≡ true → wordTurn vs o at w ≡ markTurn o at (number (drop 1 w))
-  unfolding wordTurn
-  word-mark e = rw e
+-- ---- the body, by one word
+module _ (vs : List Variable) (r : List ℕ) (o : Step) (ws : List Span) where
+  pub body-done : ws ≡ [] → bodySteps vs r o ws ≡ closing o (endsWith ended)
+  unfolding bodySteps
+  body-done e = rw e
 
-  pub word-change : opensMark w ≡ false → wordTurn vs o at w ≡ changeTurn vs o at w
-  unfolding wordTurn
-  word-change e = rw e
+  module _ (w : Span) (e : ws ≡ w ∷ words r (w .end)) where
+    pub body-mark : opensMark (bytesOf r w) ≡ true → bodySteps vs r o ws ≡ closing o (behindMark vs r o w)
+    unfolding bodySteps wordTurn
+    body-mark m = rw (e, m)
+
+    body-change : opensMark (bytesOf r w) ≡ false → (t : Turn) → turnAs t ≡ changeTurn vs o (w .start) (bytesOf r w) → bodySteps vs r o ws ≡ onward (turnAs t) (λ p. bodySteps vs r p (words r (w .end)))
+    unfolding bodySteps wordTurn
+    body-change m t q = rw (e, m, ← q)
+
+    module _ (m : opensMark (bytesOf r w) ≡ false) (t : Turn) (q : turnAs t ≡ changeTurn vs o (w .start) (bytesOf r w)) where
+      pub change-stop : (f : Refusal) → t ≡ Refused f → bodySteps vs r o ws ≡ endsWith (refusedAt (f .limit) (f .place .0))
+      unfolding onward
+      change-stop f h = body-change m t q ∙ rw h
+
+      pub change-on : (p : Step) → t ≡ Passed p → bodySteps vs r o ws ≡ bodySteps vs r p (words r (w .end))
+      unfolding onward
+      change-on p h = body-change m t q ∙ rw h

@@ -18,7 +18,8 @@ use Rattle.text.specs.Split.{bytesOf, front, rest, NextWord}
 use Rattle.text.specs.declared.Class.the-variants.{Parting}
 use Rattle.text.specs.declared.Span.{Span}
 use Rattle.text.proofs.Runs.{is-word, is-last, words-over}
-use Rattle.recording.specs.Header.{words, says, commandOf, shaped, declare, Header, cutOff, close, byCommand, header, skipping, declaring, afterEnd, Resumes, Five, firstOther, opened}
+use Rattle.recording.specs.Answers.{afterEnd, Resumes, FiveWords}
+use Rattle.recording.specs.Header.{words, says, commandOf, shaped, declare, Header, cutOff, close, byCommand, header, skipping, declaring, mostBytes, firstOther, opened}
 use Rattle.recording.specs.Variables.{Variable, lookUp, isDeclared, clockAgain, allDeclared}
 use Rattle.recording.specs.declared.Command.{Command}
 use Rattle.recording.specs.declared.Command.the-variants.{Skipped, Declaration, Definitions, Unknown}
@@ -44,9 +45,9 @@ module _ (r : List ℕ) (at : ℕ) (w : Span) (n : NextWord (inClass Parting) r 
       go (no k) = absurd (h (words-over r (inClass Parting) at (omega arith)))
 
   -- ---- the words behind the first `$end`
-  pub end-here : says (bytesOf r w) "$end" ≡ true → afterEnd r (words r at) ≡ words r (w .end)
+  pub end-stop : says (bytesOf r w) "$end" ≡ true → afterEnd r (words r at) ≡ words r (w .end)
   unfolding afterEnd
-  end-here e = go (decLt (w .start) (w .end))
+  end-stop e = go (decLt (w .start) (w .end))
     where
       go : Dec (w .start < w .end) → afterEnd r (words r at) ≡ words r (w .end)
       go (yes h) = rw (is-word r (inClass Parting) at w n h, e)
@@ -62,9 +63,9 @@ module _ (r : List ℕ) (at : ℕ) (w : Span) (n : NextWord (inClass Parting) r 
           let k : words r at ≡ [] = is-last r (inClass Parting) at w n (omega arith) in
           ap (afterEnd r) (k ∙ sym (n .after ∙ ap rest k ∙ unfold rest in refl))
 
-pub end-over : (r : List ℕ) (at : ℕ) → length r ≤ at → afterEnd r (words r at) ≡ words r (length r)
+pub end-done : (r : List ℕ) (at : ℕ) → length r ≤ at → afterEnd r (words r at) ≡ words r (length r)
 unfolding afterEnd
-end-over r at h = rw (words-over r (inClass Parting) at h, words-over r (inClass Parting) (length r) (omega arith))
+end-done r at h = rw (words-over r (inClass Parting) at h, words-over r (inClass Parting) (length r) (omega arith))
 
 -- ---- the end of the header
 module _ (n : ℕ) (r : List ℕ) (at : ℕ) (vs : List Variable) (ws : List Span) where
@@ -113,7 +114,7 @@ module _ (named : List ℕ → ℕ) (r : List ℕ) (at : ℕ) (vs : List Variabl
       declare-more h = allows _ _ _ _ (ap not s) ∙ allows _ _ _ _ d ∙ allows _ _ _ _ (lt-leb 128 (length vs) h)
 
 -- five words in a row, if the last has a byte
-module _ (r : List ℕ) (from : ℕ) (ws : Words) (five : Five r from ws) where
+module _ (r : List ℕ) (from : ℕ) (ws : Words) (five : FiveWords r from ws) where
   fourth : words r (ws .name .end) ≡ rest (rest (rest (rest (words r from))))
   fourth = five .name .after ∙ ap rest (five .id .after ∙ ap rest (five .width .after ∙ ap rest (five .kind .after)))
 
@@ -163,14 +164,14 @@ module _ (r : List ℕ) (from : ℕ) (ws : Words) (five : Five r from ws) where
 
 -- ---- command by command
 module _ (named : List ℕ → ℕ) (n : ℕ) (r : List ℕ) (vs : List Variable) where
-  pub header-cut : (ws : List Span) → ws ≡ [] → header named n r vs ws ≡ cutOff r
+  pub header-done : (ws : List Span) → ws ≡ [] → header named n r vs ws ≡ cutOff r
   unfolding header
-  header-cut ws e = rw e
+  header-done ws e = rw e
 
   -- a skipped command: the header goes on behind its `$end`
   skipping-on : (ws : List Span) → skipping named n r vs ws ≡ header named n r vs (afterEnd r ws)
   unfolding skipping afterEnd
-  skipping-on [] = sym (header-cut [] refl)
+  skipping-on [] = sym (header-done [] refl)
   skipping-on (w ∷ ws) = go (says (bytesOf r w) "$end") (skipping-on ws)
     where
       go : (x : Bool) → skipping named n r vs ws ≡ header named n r vs (afterEnd r ws)
@@ -199,25 +200,25 @@ module _ (named : List ℕ → ℕ) (n : ℕ) (r : List ℕ) (vs : List Variable
 
 -- ---- before words
 module _ (named : List ℕ → ℕ) (n : ℕ) (r : List ℕ) where
-  pub opened-long : 65_536 < length r → opened named n r ≡ stopped RecordingLength 0
+  pub opened-long : mostBytes < length r → opened named n r ≡ stopped RecordingLength 0
   unfolding opened
-  opened-long h = refuses _ _ _ _ (lt-ltb 65_536 (length r) h)
+  opened-long h = refuses _ _ _ _ (lt-ltb mostBytes (length r) h)
 
-  module _ (h : length r ≤ 65_536) where
+  module _ (h : length r ≤ mostBytes) where
     pub opened-other : (i : ℕ) → i ≡ firstOther r → i < length r → opened named n r ≡ stopped RecordingByte i
     unfolding opened
-    opened-other i e k = allows _ _ _ _ (le-ltb 65_536 (length r) h) ∙ rw (← e) (refuses _ _ _ _ (lt-ltb i (length r) k))
+    opened-other i e k = allows _ _ _ _ (le-ltb mostBytes (length r) h) ∙ rw (← e) (refuses _ _ _ _ (lt-ltb i (length r) k))
 
     pub opened-header : (i : ℕ) → i ≡ firstOther r → length r ≤ i → opened named n r ≡ header named n r [] (words r 0)
     unfolding opened
-    opened-header i e k = allows _ _ _ _ (le-ltb 65_536 (length r) h) ∙ allows _ _ _ _ (ap (λ (x : ℕ). ltb x (length r)) (sym e) ∙ le-ltb i (length r) k)
+    opened-header i e k = allows _ _ _ _ (le-ltb mostBytes (length r) h) ∙ allows _ _ _ _ (ap (λ (x : ℕ). ltb x (length r)) (sym e) ∙ le-ltb i (length r) k)
 
   -- a header is read of a recording within limit 30 alone
-  pub opened-within : (h : Header) → opened named n r ≡ passed h → length r ≤ 65_536
+  pub opened-within : (h : Header) → opened named n r ≡ passed h → length r ≤ mostBytes
   unfolding opened
-  opened-within h e = go (decLt 65_536 (length r))
+  opened-within h e = go (decLt mostBytes (length r))
     where
-      go : Dec (65_536 < length r) → length r ≤ 65_536
+      go : Dec (mostBytes < length r) → length r ≤ mostBytes
       go (no k) = omega arith
       go (yes k) = let s : opened named n r ≡ stopped RecordingLength 0 = opened-long k in let z : _≡_ {A = ℕ} 0 1 = cc in absurd (omega arith)
 

@@ -28,7 +28,7 @@ use Rattle.grammar.specs.declared.Found.the-variants.{At, Nothing}
 use Rattle.grammar.specs.declared.Names.{Names}
 use Rattle.recording.specs.Body.{opensMark, levelOf, unmarked, begin, ticking, markTurn, foundTurn, variableTurn, levelTurn, changeTurn, wordTurn, Reading, closing, onward, bodySteps, bodyOf, reading}
 use Rattle.limit.specs.Checked.{Checked, passed, stopped, refuseIf, andThen}
-use Rattle.recording.specs.Header.{says, commandOf, shaped, declare, Header, firstOther, close, byCommand, header, skipping, declaring, opened, words}
+use Rattle.recording.specs.Header.{says, commandOf, shaped, declare, Header, mostBytes, firstOther, close, byCommand, header, skipping, declaring, opened, words}
 use Rattle.recording.specs.Variables.{Variable, clockNamed, withId, lookUp, isDeclared, clockAgain, allDeclared}
 use Rattle.recording.specs.declared.Command.{Command}
 use Rattle.recording.specs.declared.Command.the-variants.{Skipped, Declaration, Definitions, Unknown}
@@ -161,7 +161,7 @@ module _ (n : ℕ) (room : n ≤ 32) where
     unfolding opened
     opened-known =
         let p31 : Checked Header = refuseIf (ltb (firstOther r) (length r)) RecordingByte (firstOther r) (header named n r [] (words r 0)) in
-        unless-broken (λ h. Clocks (h .variables)) (ltb 65_536 (length r)) RecordingLength 0 p31
+        unless-broken (λ h. Clocks (h .variables)) (ltb mostBytes (length r)) RecordingLength 0 p31
         (unless-broken (λ h. Clocks (h .variables)) (ltb (firstOther r) (length r)) RecordingByte (firstOther r) (header named n r [] (words r 0)) (header-known [] (words r 0) tt))
 
   -- ---- the body: only clocks of the table tick

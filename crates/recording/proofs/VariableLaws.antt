@@ -14,7 +14,8 @@ use Rattle.constraint.proofs.Booleans.{and-l, and-r}
 use Rattle.text.specs.Bytes.{allBytes, sameBytes}
 use Rattle.text.proofs.Bytes.{drop-next, same-equal, equal-same}
 use Rattle.grammar.specs.declared.Found.the-variants.{At, Nothing}
-use Rattle.recording.specs.Variables.{Variable, withId, lookUp, hasClock, codeOf, digitOf, Bytes, bytesOfCode, variablesOf, allDeclared, bucketOf, Starts}
+use Rattle.recording.specs.Variables.{Variable, withId, lookUp, hasClock, allDeclared}
+use Rattle.recording.specs.Index.{codeOf, digitOf, Bytes, bytesOfCode, variablesOf, bucketOf, Starts, Index}
 
 -- ---- ids as numbers
 
@@ -130,34 +131,34 @@ declared-more vs id c k m e t h q = rw (e, code-back 5 id (omega arith) t, q)
 module _ (n : ℕ) (cs ks : List ℕ) (i : ℕ) where
   -- the search for an id
   module _ (w : List ℕ) where
-    pub id-none : n ≤ i → withId (drop i (variablesOf n cs ks)) w ≡ Nothing
+    pub id-done : n ≤ i → withId (drop i (variablesOf n cs ks)) w ≡ Nothing
     unfolding withId
-    id-none h = rw (variables-done n cs ks i h)
+    id-done h = rw (variables-done n cs ks i h)
 
     module _ (h : i < n) (p : n ≤ length cs) (q : n ≤ length ks) (short : length w ≤ 4) (t : Bytes w) where
       id-turn : withId (drop i (variablesOf n cs ks)) w ≡ cond (eqb (getD cs i 0) (codeOf w)) (At (getD ks i 0)) (withId (drop (i + 1) (variablesOf n cs ks)) w)
       unfolding withId
       id-turn = rw (variables-next n cs ks i h p q, same-code (getD cs i 0) w short t)
 
-      pub id-here : getD cs i 0 ≡ codeOf w → withId (drop i (variablesOf n cs ks)) w ≡ At (getD ks i 0)
-      id-here e = id-turn ∙ rw (eq-eqb _ _ e)
+      pub id-stop : getD cs i 0 ≡ codeOf w → withId (drop i (variablesOf n cs ks)) w ≡ At (getD ks i 0)
+      id-stop e = id-turn ∙ rw (eq-eqb _ _ e)
 
       pub id-on : (getD cs i 0 ≡ codeOf w → ⊥) → withId (drop i (variablesOf n cs ks)) w ≡ withId (drop (i + 1) (variablesOf n cs ks)) w
       id-on e = id-turn ∙ rw (ne-eqb _ _ e)
 
   -- the search for a clock
   module _ (k : ℕ) where
-    pub clock-none : n ≤ i → hasClock (drop i (variablesOf n cs ks)) k ≡ false
+    pub clock-done : n ≤ i → hasClock (drop i (variablesOf n cs ks)) k ≡ false
     unfolding hasClock
-    clock-none h = rw (variables-done n cs ks i h)
+    clock-done h = rw (variables-done n cs ks i h)
 
     module _ (h : i < n) (p : n ≤ length cs) (q : n ≤ length ks) where
       clock-turn : hasClock (drop i (variablesOf n cs ks)) k ≡ (eqb (getD ks i 0) k || hasClock (drop (i + 1) (variablesOf n cs ks)) k)
       unfolding hasClock
       clock-turn = rw (variables-next n cs ks i h p q)
 
-      pub clock-here : getD ks i 0 ≡ k → hasClock (drop i (variablesOf n cs ks)) k ≡ true
-      clock-here e = clock-turn ∙ rw (eq-eqb _ _ e)
+      pub clock-stop : getD ks i 0 ≡ k → hasClock (drop i (variablesOf n cs ks)) k ≡ true
+      clock-stop e = clock-turn ∙ rw (eq-eqb _ _ e)
 
       pub clock-on : (getD ks i 0 ≡ k → ⊥) → hasClock (drop i (variablesOf n cs ks)) k ≡ hasClock (drop (i + 1) (variablesOf n cs ks)) k
       clock-on e = clock-turn ∙ rw (ne-eqb _ _ e)
@@ -187,34 +188,38 @@ module _ (vs : List Variable) (k j : ℕ) (e : k ≡ j + 1) where
   unfolding allDeclared
   all-on h = rw (e, add-one j, h)
 
-pub all-none : (vs : List Variable) (k : ℕ) → k ≡ 0 → allDeclared vs k ≡ true
+pub all-done : (vs : List Variable) (k : ℕ) → k ≡ 0 → allDeclared vs k ≡ true
 unfolding allDeclared
-all-none vs k e = rw e
+all-done vs k e = rw e
 
 -- ---- where a search begins
 
--- one variable more: the start of its bucket
-pub starts-more : (n : ℕ) (cs ss : List ℕ) (k i b : ℕ) → i + 1 ≡ k → b ≡ bucketOf (getD cs i 0) → b < length ss → Starts k n cs ss → Starts i n cs (set ss b i)
-starts-more n cs ss k i b next is inside starts j low high = go (eqb (bucketOf (getD cs j 0)) b) refl
+-- one variable more, and a start of its bucket that is no higher than before, nor than the variable
+pub starts-more : (n : ℕ) (cs ss : List ℕ) (c b s : ℕ) → n < length cs → b ≡ bucketOf c → b < length ss → s ≤ getD ss b 0 → s ≤ n → Starts n cs ss → Starts (n + 1) (set cs n c) (set ss b s)
+starts-more n cs ss c b s room is inside low last starts j high = go (eqb j n) refl
   where
-    go : (x : Bool) → eqb (bucketOf (getD cs j 0)) b ≡ x → getD (set ss b i) (bucketOf (getD cs j 0)) 0 ≤ j
-    go true e = rw (eqb-true (bucketOf (getD cs j 0)) b e, getD-set-same ss b i 0 inside) low
-    go false e =
-        let other = eqb-false (bucketOf (getD cs j 0)) b e in
-        let later : i ≡ j → ⊥ = λ q. other (ap (λ (m : ℕ). bucketOf (getD cs m 0)) (sym q) ∙ sym is) in
-        rw (getD-set-other ss b (bucketOf (getD cs j 0)) i 0 other) (starts j (omega (arith, next, low, later)) high)
+    old : (i : ℕ) → getD ss i 0 ≤ j → getD (set ss b s) i 0 ≤ j
+    old i h = pick (eqb i b) refl
+      where
+        pick : (x : Bool) → eqb i b ≡ x → getD (set ss b s) i 0 ≤ j
+        pick true q = let k = eqb-true i b q in rw (k, getD-set-same ss b s 0 inside) (omega (arith, low, rw k at h))
+        pick false q = rw (getD-set-other ss b i s 0 (eqb-false i b q)) h
+
+    go : (x : Bool) → eqb j n ≡ x → getD (set ss b s) (bucketOf (getD (set cs n c) j 0)) 0 ≤ j
+    go true e = let k = eqb-true j n e in rw (k, getD-set-same cs n c 0 room, ← is, getD-set-same ss b s 0 inside) last
+    go false e = let k = eqb-false j n e in rw (getD-set-other cs n j c 0 k) (old _ (starts j (omega (arith, high, k))))
 
 -- up to the start of its bucket no variable has the id
-pub starts-skip : (n : ℕ) (cs ks ss w : List ℕ) → n ≤ length cs → n ≤ length ks → length w ≤ 4 → Bytes w → Starts 0 n cs ss
+pub starts-skip : (n : ℕ) (cs ks ss w : List ℕ) → Index n cs ks ss → length w ≤ 4 → Bytes w
     → (k : ℕ) → k ≤ getD ss (bucketOf (codeOf w)) 0 → withId (drop k (variablesOf n cs ks)) w ≡ withId (variablesOf n cs ks) w
-starts-skip n cs ks ss w p q short t starts zero low = refl
-starts-skip n cs ks ss w p q short t starts (suc k) low = go (ltb k n) refl ∙ starts-skip n cs ks ss w p q short t starts k (omega (arith, low))
+starts-skip n cs ks ss w x short t zero low = refl
+starts-skip n cs ks ss w x short t (suc k) low = go (ltb k n) refl ∙ starts-skip n cs ks ss w x short t k (omega (arith, low))
   where
     differs : k < n → getD cs k 0 ≡ codeOf w → ⊥
     differs h e =
-        let past : getD ss (bucketOf (codeOf w)) 0 ≤ k = rw e at (starts k (omega arith) h) in
+        let past : getD ss (bucketOf (codeOf w)) 0 ≤ k = rw e at (x .begins k h) in
         omega (arith, past, low)
 
-    go : (x : Bool) → ltb k n ≡ x → withId (drop (suc k) (variablesOf n cs ks)) w ≡ withId (drop k (variablesOf n cs ks)) w
-    go true e = let h = ltb-true k n e in rw (← add-one k) (sym (id-on n cs ks k w h p q short t (differs h)))
-    go false e = let h = ltb-false k n e in id-none n cs ks (suc k) w (omega (arith, h)) ∙ sym (id-none n cs ks k w h)
+    go : (y : Bool) → ltb k n ≡ y → withId (drop (suc k) (variablesOf n cs ks)) w ≡ withId (drop k (variablesOf n cs ks)) w
+    go true e = let h = ltb-true k n e in rw (← add-one k) (sym (id-on n cs ks k w h (x .ids-fit) (x .clocks-fit) short t (differs h)))
+    go false e = let h = ltb-false k n e in id-done n cs ks (suc k) w (omega (arith, h)) ∙ sym (id-done n cs ks k w h)

@@ -15,13 +15,12 @@ use Rattle.text.specs.declared.Number.the-variants.{NotDigits, TooLarge, Value}
 use Rattle.text.specs.declared.Span.{Span}
 use Rattle.grammar.specs.declared.Found.{Found}
 use Rattle.grammar.specs.declared.Found.the-variants.{At, Nothing}
-use Rattle.limit.specs.Checked.{Checked, passed, stopped, refuseIf, checked}
+use Rattle.limit.specs.Checked.{Checked, passed, stopped, refuseIf}
 use Rattle.recording.specs.Header.{Header, opened}
 use Rattle.recording.specs.Variables.{Variable, lookUp}
 use Rattle.recording.specs.declared.Level.{Level}
 use Rattle.recording.specs.declared.Level.the-variants.{Tick, NoTick, NoChange}
 use Rattle.recording.specs.declared.Step.{Step}
-use Rattle.recording.specs.declared.Turn.{Turn}
 
 -- `#` is byte 35
 abbrev pub opensMark : List ℕ → Bool
@@ -109,7 +108,3 @@ bodyOf r h = bodySteps (h .variables) r unmarked (h .body)
 -- the whole recording
 abbrev pub reading : (named : List ℕ → ℕ) (n : ℕ) → List ℕ → Reading
 reading named n r = onward (opened named n r) (bodyOf r)
-
--- what a turn in code stands for
-abbrev pub turnAs : Turn → Checked Step
-turnAs t = checked (t .outcome) (t .step)

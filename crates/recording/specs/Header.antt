@@ -1,26 +1,21 @@
 -- The header: document 01, "Recording" and the rows 30 to 37 of "Where each refusal is checked". r is the recording, n the table's clock
 -- count, and named gives the number of the clock with a name. Assumes nothing.
-use mathlib.Core.Path.{_≡_}
 use mathlib.Core.Bool.{Bool, true, not, cond, _&&_, _||_}
 use mathlib.Core.List.{List, [], _∷_, _++_}
-use Prim.Native.Nat.{ℕ, _<_, _≤_}
+use Prim.Native.Nat.{ℕ}
 use Prim.Native.String.{String}
 use lib.Dec.{leb, ltb}
 use lib.ListN.{length}
 use Rattle.limit.specs.declared.Limit.the-variants.{RecordingLength, RecordingByte, HeaderCommand, VariableShape, DeclaredTwice, VariableCount, ClockUndeclared, HeaderCutOff}
 use Rattle.text.specs.Ascii.{ascii}
 use Rattle.text.specs.Bytes.{inClass, passes, sameBytes}
-use Rattle.text.specs.Split.{bytesOf, wordsAt, runEnd, NextWord}
+use Rattle.text.specs.Split.{bytesOf, wordsAt, runEnd}
 use Rattle.text.specs.declared.Class.the-variants.{Parting, Recorded}
 use Rattle.text.specs.declared.Span.{Span}
-use Rattle.limit.specs.declared.Check.the-variants.{Passed}
-use Rattle.limit.specs.Checked.{Checked, passed, stopped, refuseIf, andThen, checked}
-use Rattle.recording.specs.Variables.{Variable, lookUp, isDeclared, clockAgain, allDeclared, declared}
+use Rattle.limit.specs.Checked.{Checked, passed, stopped, refuseIf, andThen}
+use Rattle.recording.specs.Variables.{Variable, lookUp, isDeclared, clockAgain, allDeclared}
 use Rattle.recording.specs.declared.Command.{Command}
 use Rattle.recording.specs.declared.Command.the-variants.{Skipped, Declaration, Definitions, Unknown}
-use Rattle.recording.specs.declared.Declared.{Declared}
-use Rattle.recording.specs.declared.HeaderRead.{HeaderRead}
-use Rattle.recording.specs.declared.Words.{Words}
 
 -- words are parted by bytes 9, 10, 13, 32
 abbrev pub words : List ℕ → ℕ → List Span
@@ -98,44 +93,16 @@ unfoldable mutual
   declaring named n r vs at (kind ∷ width ∷ id ∷ name ∷ last ∷ ws) =
       andThen (declare named r at vs kind width id name last) (λ us. header named n r us ws)
 
--- 30 over 65,536 bytes; 31 byte that is neither a parting byte nor 33 to 126; then the header
+-- the bytes that a recording may have
+abbrev pub mostBytes : ℕ
+mostBytes = 65_536
+
+-- 30 over that many bytes; 31 byte that is neither a parting byte nor 33 to 126; then the header
 abbrev pub firstOther : List ℕ → ℕ
 firstOther r = runEnd (passes Recorded true) 0 r
 
 unfoldable pub opened : (named : List ℕ → ℕ) (n : ℕ) → List ℕ → Checked Header
 opened named n r =
-    refuseIf (ltb 65_536 (length r)) RecordingLength 0
+    refuseIf (ltb mostBytes (length r)) RecordingLength 0
     (refuseIf (ltb (firstOther r) (length r)) RecordingByte (firstOther r)
     (header named n r [] (words r 0)))
-
--- ---- what answers in code stand for
-
--- the words behind the first `$end`
-unfoldable pub afterEnd : List ℕ → List Span → List Span
-afterEnd r [] = []
-afterEnd r (w ∷ ws) = cond (says (bytesOf r w) "$end") ws (afterEnd r ws)
-
--- an offset from which on these words are left, and which is further on than those before from
-pub record Resumes (r : List ℕ) (from : ℕ) (at : ℕ) : Type 0 where
-  pub left : words r at ≡ afterEnd r (words r from)
-  pub forward : (i : ℕ) → i < from → i < length r → i < at
-
--- five words in a row, from an offset on
-pub record Five (r : List ℕ) (from : ℕ) (ws : Words) : Type 0 where
-  pub kind : NextWord (inClass Parting) r from (ws .kind)
-  pub width : NextWord (inClass Parting) r (ws .kind .end) (ws .width)
-  pub id : NextWord (inClass Parting) r (ws .width .end) (ws .id)
-  pub name : NextWord (inClass Parting) r (ws .id .end) (ws .name)
-  pub last : NextWord (inClass Parting) r (ws .name .end) (ws .last)
-
-abbrev pub declaredAs : Declared → Checked (List Variable)
-declaredAs d = checked (d .outcome) (declared (d .variables))
-
-abbrev pub headerAs : List ℕ → HeaderRead → Checked Header
-headerAs r h = checked (h .outcome) (record { variables = declared (h .variables); body = words r (h .body) })
-
--- the header goes on from what reading a declaration left, which is further on
-pub record Declares (named : List ℕ → ℕ) (n : ℕ) (r : List ℕ) (vs : List Variable) (command : Span) (h : HeaderRead) : Type 0 where
-  pub says : declaring named n r vs (command .start) (words r (command .end)) ≡ andThen (headerAs r h) (λ g. header named n r (g .variables) (g .body))
-  pub few : h .variables .count ≤ 128
-  pub forward : h .outcome ≡ Passed → command .end < h .body

@@ -1,3 +1,5 @@
+pub mod Answers
 pub mod Body
 pub mod Header
+pub mod Index
 pub mod Variables

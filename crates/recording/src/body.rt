@@ -1,23 +1,26 @@
 // The words of the body: marks and changes, and what they do to the open step.
+use super::ChangesRead;
 use super::Level;
 use super::Step;
 use super::Time;
 use super::Turn;
 use super::lookup::find_id;
 use grammar::Found;
-use limit::Check;
 use limit::Limit;
 use limit::Place;
 use limit::Refusal;
+use text::Class;
 use text::Number;
+use text::Span;
 ghost use mathlib.Core.Path.{_≡_};
 ghost use mathlib.Core.Bool.{true, false};
-ghost use Prim.Native.Nat.{_≤_, _<_};
-ghost use lib.ListN.{length};
-ghost use Rattle.text.specs.Digits.{number};
-ghost use Rattle.recording.specs.Body as b;
+ghost use lib.ListN.{drop};
 ghost use Rattle.limit.specs.Checked as k;
-ghost use Rattle.recording.specs.Variables.{Starts, variablesOf};
+ghost use Rattle.text.specs.Digits.{number};
+ghost use Rattle.text.specs.Split.{bytesOf};
+ghost use Rattle.recording.specs.Answers as a;
+ghost use Rattle.recording.specs.Body as b;
+ghost use Rattle.recording.specs.Index.{Index, variablesOf};
 
 // Before any mark.
 pub fn unmarked() -> Step
@@ -31,31 +34,18 @@ pub fn unmarked() -> Step
     }
 }
 
-// The open step after a word.
-fn passed(step: Step) -> Turn
-    ensures { λ r. ⌜ b.turnAs r ≡ k.Checked.passed step ⌝ }
-{
-    Turn {
-        outcome: Check::Passed,
-        step,
-    }
-}
-
 // A word that breaks a limit.
-fn stopped(step: Step, limit: Limit, at: usize) -> Turn
-    ensures { λ r. ⌜ b.turnAs r ≡ k.Checked.stopped limit at ⌝ }
+fn stopped(limit: Limit, at: usize) -> Turn
+    ensures { λ r. ⌜ a.turnAs r ≡ k.Checked.stopped limit at ⌝ }
 {
-    Turn {
-        outcome: Check::Refused(Refusal {
-            limit,
-            place: Place(at),
-        }),
-        step,
-    }
+    Turn::Refused(Refusal {
+        limit,
+        place: Place(at),
+    })
 }
 
 // Whether a word opens with `#`.
-pub fn opens_mark(word: &[u8]) -> bool
+fn opens_mark(word: &[u8]) -> bool
     ensures { λ r. ⌜ r ≡ b.opensMark (now (word .entry)) ⌝ }
 {
     if word.len() == 0 {
@@ -66,13 +56,13 @@ pub fn opens_mark(word: &[u8]) -> bool
 
 // A mark at a time.
 fn timed(step: Step, at: usize, time: u64) -> Turn
-    ensures { λ r. ⌜ b.turnAs r ≡ b.markTurn step at (Number.Value time) ⌝ }
+    ensures { λ r. ⌜ a.turnAs r ≡ b.markTurn step at (Number.Value time) ⌝ }
 {
     let last = step.time;
     if step.begun & (time <= last.0) {
-        return stopped(step, Limit::MarkTime, at);
+        return stopped(Limit::MarkTime, at);
     }
-    passed(Step {
+    Turn::Passed(Step {
         begun: true,
         mark: Place(at),
         time: Time(time),
@@ -80,41 +70,46 @@ fn timed(step: Step, at: usize, time: u64) -> Turn
     })
 }
 
-// A mark with its digits.
-pub fn mark(step: Step, at: usize, digits: &[u8]) -> Turn
-    ensures { λ r. ⌜ b.turnAs r ≡ b.markTurn step at (number (now (digits .entry))) ⌝ }
+// A word that opens with `#`, behind the step that it closes.
+pub fn read_mark(recording: &[u8], step: Step, word: Span) -> Turn
+    ensures { λ r. ⌜ a.turnAs r ≡ b.markTurn step (word .start) (number (drop 1 (bytesOf (now (recording .entry)) word))) ⌝ }
 {
-    let said = text::decimal(digits);
+    let at = word.start;
+    let bytes = text::part(recording, word);
+    if bytes.len() == 0 {
+        return stopped(Limit::BodyWord, at);
+    }
+    let said = text::decimal(&bytes[1..]);
     match said {
-        Number::NotDigits => stopped(step, Limit::BodyWord, at),
-        Number::TooLarge => stopped(step, Limit::MarkTime, at),
+        Number::NotDigits => stopped(Limit::BodyWord, at),
+        Number::TooLarge => stopped(Limit::MarkTime, at),
         Number::Value(time) => timed(step, at, time),
     }
 }
 
 // A tick of a clock.
 fn tick(step: Step, at: usize, clock: u8) -> Turn
-    ensures { λ r. ⌜ b.turnAs r ≡ b.foundTurn step at true (Found.At clock) ⌝ }
+    ensures { λ r. ⌜ a.turnAs r ≡ b.foundTurn step at true (Found.At clock) ⌝ }
 {
     if constraint::ticks(step.ticks, clock) {
-        return stopped(step, Limit::TickTwice, at);
+        return stopped(Limit::TickTwice, at);
     }
     let mut more = step;
     more.ticks = constraint::with_tick(step.ticks, clock);
-    passed(more)
+    Turn::Passed(more)
 }
 
 // A change of the variable that was found.
 fn found(step: Step, at: usize, ticks: bool, variable: Found) -> Turn
-    ensures { λ r. ⌜ b.turnAs r ≡ b.foundTurn step at ticks variable ⌝ }
+    ensures { λ r. ⌜ a.turnAs r ≡ b.foundTurn step at ticks variable ⌝ }
 {
     let Found::At(clock) = variable else {
-        return stopped(step, Limit::IdUndeclared, at);
+        return stopped(Limit::IdUndeclared, at);
     };
     if ticks {
         return tick(step, at, clock);
     }
-    passed(step)
+    Turn::Passed(step)
 }
 
 // What the first byte of a change says.
@@ -141,17 +136,17 @@ fn variable<'a>(
     ticks: bool,
     id: &[u8],
 ) -> Turn
-    requires { ⌜ (count ≤ length (now ids)) × (count ≤ length (now clocks)) × (241 ≤ length (now starts)) × Starts 0 count (now ids) (now starts) ⌝ }
-    ensures { λ r. ⌜ b.turnAs r ≡ b.variableTurn (variablesOf count (now (ids .entry)) (now (clocks .entry))) step at ticks (now (id .entry)) ⌝ }
+    requires { ⌜ Index count (now ids) (now clocks) (now starts) ⌝ }
+    ensures { λ r. ⌜ a.turnAs r ≡ b.variableTurn (variablesOf count (now (ids .entry)) (now (clocks .entry))) step at ticks (now (id .entry)) ⌝ }
 {
     if !step.begun {
-        return stopped(step, Limit::ChangeBeforeMark, at);
+        return stopped(Limit::ChangeBeforeMark, at);
     }
     found(step, at, ticks, find_id(ids, clocks, count, starts, id))
 }
 
 // A word that opens no mark.
-pub fn change<'a>(
+fn change<'a>(
     ids: &'a [u64],
     clocks: &'a [u8],
     count: usize,
@@ -160,16 +155,61 @@ pub fn change<'a>(
     at: usize,
     word: &[u8],
 ) -> Turn
-    requires { ⌜ (count ≤ length (now ids)) × (count ≤ length (now clocks)) × (241 ≤ length (now starts)) × Starts 0 count (now ids) (now starts) ⌝ }
-    ensures { λ r. ⌜ b.turnAs r ≡ b.changeTurn (variablesOf count (now (ids .entry)) (now (clocks .entry))) step at (now (word .entry)) ⌝ }
+    requires { ⌜ Index count (now ids) (now clocks) (now starts) ⌝ }
+    ensures { λ r. ⌜ a.turnAs r ≡ b.changeTurn (variablesOf count (now (ids .entry)) (now (clocks .entry))) step at (now (word .entry)) ⌝ }
 {
     if word.len() < 2 {
-        return stopped(step, Limit::BodyWord, at);
+        return stopped(Limit::BodyWord, at);
     }
     let said = level(word[0]);
     match said {
         Level::Tick => variable(ids, clocks, count, starts, step, at, true, &word[1..]),
         Level::NoTick => variable(ids, clocks, count, starts, step, at, false, &word[1..]),
-        Level::NoChange => stopped(step, Limit::BodyWord, at),
+        Level::NoChange => stopped(Limit::BodyWord, at),
     }
+}
+
+// The changes of the open step from an offset on, up to the word that closes it.
+pub fn read_changes<'a>(
+    recording: &[u8],
+    ids: &'a [u64],
+    clocks: &'a [u8],
+    count: usize,
+    starts: &'a [u8],
+    opened: Step,
+    from: usize,
+) -> ChangesRead
+    requires { ⌜ Index count (now ids) (now clocks) (now starts) ⌝ }
+    ensures { λ r. ⌜ a.Reads (variablesOf count (now (ids .entry)) (now (clocks .entry))) (now (recording .entry)) opened from r ⌝ }
+{
+    let mut step = opened;
+    let mut at = from;
+    while at < recording.len() {
+        let word = text::next_word(Class::Parting, recording, at);
+        if word.end <= word.start {
+            return ChangesRead::End(step);
+        }
+        if opens_mark(text::part(recording, word)) {
+            return ChangesRead::Mark(step, word);
+        }
+        let turn = change(
+            ids,
+            clocks,
+            count,
+            starts,
+            step,
+            word.start,
+            text::part(recording, word),
+        );
+        match turn {
+            Turn::Refused(refusal) => {
+                return ChangesRead::Refused(refusal);
+            }
+            Turn::Passed(after) => {
+                step = after;
+                at = word.end;
+            }
+        }
+    }
+    ChangesRead::End(step)
 }

@@ -22,7 +22,9 @@ ghost use mathlib.Core.Path.{_≡_};
 ghost use mathlib.Core.List.{[]};
 ghost use Prim.Native.Nat.{_≤_, _<_};
 ghost use Rattle.limit.specs.Checked as k;
+ghost use Rattle.recording.specs.Answers as a;
 ghost use Rattle.recording.specs.Header as h;
+ghost use Rattle.recording.specs.Index as x;
 ghost use Rattle.recording.specs.Variables as v;
 
 // Whether a word opens a command that is skipped.
@@ -62,7 +64,7 @@ fn is_end(word: &[u8]) -> bool
 
 // Where the first `$end` from an offset on ends; the recording's end where there is none.
 fn after_end(recording: &[u8], from: usize) -> usize
-    ensures { λ r. ⌜ h.Resumes (now (recording .entry)) from r ⌝ }
+    ensures { λ r. ⌜ a.Resumes (now (recording .entry)) from r ⌝ }
 {
     let mut at = from;
     while at < recording.len() {
@@ -77,7 +79,7 @@ fn after_end(recording: &[u8], from: usize) -> usize
 
 // The five words from an offset on, the empty one standing for each that is not there.
 fn five_words(recording: &[u8], from: usize) -> Words
-    ensures { λ r. ⌜ h.Five (now (recording .entry)) from r ⌝ }
+    ensures { λ r. ⌜ a.FiveWords (now (recording .entry)) from r ⌝ }
 {
     let kind = text::next_word(Class::Parting, recording, from);
     let width = text::next_word(Class::Parting, recording, kind.end);
@@ -120,7 +122,7 @@ fn clock_named(table: &[u8], names: Names, name: &[u8]) -> u8
 
 // A declaration that breaks a limit.
 fn undeclared(variables: Variables, limit: Limit, at: usize) -> Declared
-    ensures { λ r. ⌜ (h.declaredAs r ≡ k.Checked.stopped limit at) × (r .variables ≡ variables) ⌝ }
+    ensures { λ r. ⌜ (a.declaredAs r ≡ k.Checked.stopped limit at) × (r .variables ≡ variables) ⌝ }
 {
     Declared {
         outcome: Check::Refused(Refusal {
@@ -140,8 +142,8 @@ fn declare(
     at: usize,
     words: Words,
 ) -> Declared
-    requires { ⌜ variables .count ≤ 128 ⌝ }
-    ensures { λ r. ⌜ (h.declaredAs r ≡ h.declare (v.clockNamed (now (table .entry)) names) (now (recording .entry)) at (v.declared variables) (words .kind) (words .width) (words .id) (words .name) (words .last)) × (r .variables .count ≤ 128) ⌝ }
+    requires { ⌜ x.Indexed variables ⌝ }
+    ensures { λ r. ⌜ (a.declaredAs r ≡ h.declare (v.clockNamed (now (table .entry)) names) (now (recording .entry)) at (x.declared variables) (words .kind) (words .width) (words .id) (words .name) (words .last)) × x.Indexed (r .variables) ⌝ }
 {
     if !shaped(recording, words) {
         return undeclared(variables, Limit::VariableShape, at);
@@ -183,8 +185,8 @@ fn declaration(
     variables: Variables,
     command: Span,
 ) -> HeaderRead
-    requires { ⌜ variables .count ≤ 128 ⌝ }
-    ensures { λ r. ⌜ h.Declares (v.clockNamed (now (table .entry)) names) (names .count) (now (recording .entry)) (v.declared variables) command r ⌝ }
+    requires { ⌜ x.Indexed variables ⌝ }
+    ensures { λ r. ⌜ a.Declares (v.clockNamed (now (table .entry)) names) (names .count) (now (recording .entry)) (x.declared variables) command r ⌝ }
 {
     let words = five_words(recording, command.end);
     let last = words.last;
@@ -203,8 +205,8 @@ fn declaration(
 
 // The end of the header, behind the command `$enddefinitions`.
 fn close(recording: &[u8], variables: Variables, clocks: usize, command: Span) -> HeaderRead
-    requires { ⌜ (variables .count ≤ 128) × (clocks ≤ 32) ⌝ }
-    ensures { λ r. ⌜ (h.headerAs (now (recording .entry)) r ≡ h.close clocks (now (recording .entry)) (command .start) (v.declared variables) (h.words (now (recording .entry)) (command .end))) × (r .variables ≡ variables) ⌝ }
+    requires { ⌜ x.Indexed variables × (clocks ≤ 32) ⌝ }
+    ensures { λ r. ⌜ (a.headerAs (now (recording .entry)) r ≡ h.close clocks (now (recording .entry)) (command .start) (x.declared variables) (h.words (now (recording .entry)) (command .end))) × (r .variables ≡ variables) ⌝ }
 {
     let word = text::next_word(Class::Parting, recording, command.end);
     if word.end <= word.start {
@@ -226,7 +228,7 @@ fn close(recording: &[u8], variables: Variables, clocks: usize, command: Span) -
 // The header, command by command.
 fn commands(table: &[u8], names: Names, recording: &[u8]) -> HeaderRead
     requires { ⌜ names .count ≤ 32 ⌝ }
-    ensures { λ r. ⌜ (h.headerAs (now (recording .entry)) r ≡ h.header (v.clockNamed (now (table .entry)) names) (names .count) (now (recording .entry)) [] (h.words (now (recording .entry)) 0)) × (r .variables .count ≤ 128) ⌝ }
+    ensures { λ r. ⌜ (a.headerAs (now (recording .entry)) r ≡ h.header (v.clockNamed (now (table .entry)) names) (names .count) (now (recording .entry)) [] (h.words (now (recording .entry)) 0)) × x.Indexed (r .variables) ⌝ }
 {
     let mut variables = none();
     let mut at = 0;
@@ -265,7 +267,7 @@ fn commands(table: &[u8], names: Names, recording: &[u8]) -> HeaderRead
 // The header of a recording: its variables, and where the body begins; or the first refusal of 30 to 37.
 pub fn read_header(table: &[u8], names: Names, recording: &[u8]) -> HeaderRead
     requires { ⌜ names .count ≤ 32 ⌝ }
-    ensures { λ r. ⌜ (h.headerAs (now (recording .entry)) r ≡ h.opened (v.clockNamed (now (table .entry)) names) (names .count) (now (recording .entry))) × (r .variables .count ≤ 128) ⌝ }
+    ensures { λ r. ⌜ (a.headerAs (now (recording .entry)) r ≡ h.opened (v.clockNamed (now (table .entry)) names) (names .count) (now (recording .entry))) × x.Indexed (r .variables) ⌝ }
 {
     if 65536 < recording.len() {
         return refused(none(), Limit::RecordingLength, 0);

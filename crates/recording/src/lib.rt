@@ -1,29 +1,29 @@
-// The recording: its header into variables, and the words of its body as marks and changes, or the first refusal of 30 to 44:
-// document 01, "Recording".
+// The recording: its header into variables, and its body into steps, each closed by the mark behind it or by the end; or the first
+// refusal of 30 to 44: document 01, "Recording".
 
 mod body;
 mod header;
 mod lookup;
 
-pub use body::change;
-pub use body::mark;
-pub use body::opens_mark;
+pub use body::read_changes;
+pub use body::read_mark;
 pub use body::unmarked;
 pub use header::read_header;
 use limit::Check;
 use limit::Place;
-pub use lookup::index;
+use limit::Refusal;
 use text::Span;
 
 // The recorded time of a mark.
 pub struct Time(pub u64);
 
 // The variables declared so far, in order: the numbers that stand for their ids, and the numbers of their clocks, 32 where the
-// table has none of that name.
+// table has none of that name. Ids are parted into buckets; a search for one begins where its bucket starts.
 pub struct Variables {
     pub ids: [u64; 128],
     pub clocks: [u8; 128],
     pub count: usize,
+    pub starts: [u8; 241],
 }
 
 // What the word at the front of a command opens: a command that is skipped, `$var`, `$enddefinitions`, or none.
@@ -72,7 +72,15 @@ pub struct Step {
 }
 
 // What a word of the body does to the open step.
-pub struct Turn {
-    pub outcome: Check,
-    pub step: Step,
+pub enum Turn {
+    Passed(Step),
+    Refused(Refusal),
+}
+
+// What the changes of the open step come to: the word behind them that opens with `#`, or the end, each with the step that it
+// closes; or a refusal.
+pub enum ChangesRead {
+    Mark(Step, Span),
+    End(Step),
+    Refused(Refusal),
 }

@@ -5,6 +5,7 @@ ghost use mathlib.Core.Path.{_≡_};
 ghost use mathlib.Core.List.{_∷_, [], _++_};
 ghost use Prim.Native.Nat.{_≤_, _<_};
 ghost use lib.ListN.{length, drop};
+ghost use Rattle.recording.specs.Index as x;
 ghost use Rattle.recording.specs.Variables as v;
 
 fn wide(x: u8) -> u64
@@ -15,7 +16,7 @@ fn wide(x: u8) -> u64
 
 // The digit of the byte at an index, 0 past the end.
 fn digit_at(id: &[u8], i: usize) -> u64
-    ensures { λ r. ⌜ (r ≡ v.digitOf (drop i (now (id .entry)))) × (r ≤ 256) ⌝ }
+    ensures { λ r. ⌜ (r ≡ x.digitOf (drop i (now (id .entry)))) × (r ≤ 256) ⌝ }
 {
     if id.len() <= i {
         return 0;
@@ -26,7 +27,7 @@ fn digit_at(id: &[u8], i: usize) -> u64
 // The number that stands for an id.
 pub fn code(id: &[u8]) -> u64
     requires { ⌜ length (now id) ≤ 4 ⌝ }
-    ensures { λ r. ⌜ (r ≡ v.codeOf (now (id .entry))) × v.Bytes (now (id .entry)) ⌝ }
+    ensures { λ r. ⌜ (r ≡ x.codeOf (now (id .entry))) × x.Bytes (now (id .entry)) ⌝ }
 {
     let a = digit_at(id, 0);
     let b = digit_at(id, 1);
@@ -37,29 +38,15 @@ pub fn code(id: &[u8]) -> u64
 
 // The bucket of an id's number, below 241.
 fn bucket(code: u64) -> usize
-    ensures { λ r. ⌜ (r ≡ v.bucketOf code) × (r < 241) ⌝ }
+    ensures { λ r. ⌜ (r ≡ x.bucketOf code) × (r < 241) ⌝ }
 {
     (code % 241) as usize
-}
-
-// Where each bucket starts: the lowest index of a variable in it, among the first count.
-pub fn index(ids: &[u64], count: usize) -> [u8; 241]
-    requires { ⌜ (count ≤ length (now ids)) × (count ≤ 128) ⌝ }
-    ensures { λ r. ⌜ v.Starts 0 count (now (ids .entry)) r ⌝ }
-{
-    let mut starts = [0; 241];
-    let mut i = count;
-    while 0 < i {
-        i -= 1;
-        starts[bucket(ids[i])] = i as u8;
-    }
-    starts
 }
 
 // The clock of the variable with an id's number, among the first count from an index on.
 fn search<'a>(ids: &'a [u64], clocks: &'a [u8], count: usize, from: usize, sought: u64) -> Found
     requires { ⌜ (count ≤ length (now ids)) × (count ≤ length (now clocks)) ⌝ }
-    ensures { λ r. ⌜ v.Finds (drop from (v.variablesOf count (now (ids .entry)) (now (clocks .entry)))) sought r ⌝ }
+    ensures { λ r. ⌜ x.Finds (drop from (x.variablesOf count (now (ids .entry)) (now (clocks .entry)))) sought r ⌝ }
 {
     let mut i = from;
     while i < count {
@@ -79,8 +66,8 @@ pub fn find_id<'a>(
     starts: &'a [u8],
     id: &[u8],
 ) -> Found
-    requires { ⌜ (count ≤ length (now ids)) × (count ≤ length (now clocks)) × (241 ≤ length (now starts)) × v.Starts 0 count (now ids) (now starts) ⌝ }
-    ensures { λ r. ⌜ r ≡ v.lookUp (v.variablesOf count (now (ids .entry)) (now (clocks .entry))) (now (id .entry)) ⌝ }
+    requires { ⌜ x.Index count (now ids) (now clocks) (now starts) ⌝ }
+    ensures { λ r. ⌜ r ≡ v.lookUp (x.variablesOf count (now (ids .entry)) (now (clocks .entry))) (now (id .entry)) ⌝ }
 {
     if 4 < id.len() {
         return Found::Nothing;
@@ -92,18 +79,15 @@ pub fn find_id<'a>(
 
 // Whether an id was declared.
 pub fn is_declared(variables: Variables, id: &[u8]) -> bool
-    requires { ⌜ variables .count ≤ 128 ⌝ }
-    ensures { λ r. ⌜ r ≡ v.isDeclared (v.lookUp (v.declared variables) (now (id .entry))) ⌝ }
+    requires { ⌜ x.Indexed variables ⌝ }
+    ensures { λ r. ⌜ r ≡ v.isDeclared (v.lookUp (x.declared variables) (now (id .entry))) ⌝ }
 {
-    if 4 < id.len() {
-        return false;
-    }
-    let found = search(
+    let found = find_id(
         &variables.ids,
         &variables.clocks,
         variables.count,
-        0,
-        code(id),
+        &variables.starts,
+        id,
     );
     match found {
         Found::At(_) => true,
@@ -113,8 +97,8 @@ pub fn is_declared(variables: Variables, id: &[u8]) -> bool
 
 // Whether a clock was declared.
 fn has_clock(variables: Variables, clock: u8) -> bool
-    requires { ⌜ variables .count ≤ 128 ⌝ }
-    ensures { λ r. ⌜ r ≡ v.hasClock (v.declared variables) clock ⌝ }
+    requires { ⌜ x.Indexed variables ⌝ }
+    ensures { λ r. ⌜ r ≡ v.hasClock (x.declared variables) clock ⌝ }
 {
     let count = variables.count;
     let mut i: usize = 0;
@@ -129,16 +113,16 @@ fn has_clock(variables: Variables, clock: u8) -> bool
 
 // Whether a clock of the table was declared.
 pub fn clock_again(variables: Variables, clock: u8) -> bool
-    requires { ⌜ variables .count ≤ 128 ⌝ }
-    ensures { λ r. ⌜ r ≡ v.clockAgain (v.declared variables) clock ⌝ }
+    requires { ⌜ x.Indexed variables ⌝ }
+    ensures { λ r. ⌜ r ≡ v.clockAgain (x.declared variables) clock ⌝ }
 {
     (clock != 32) & has_clock(variables, clock)
 }
 
 // Whether all clocks below a number were declared.
 pub fn all_declared(variables: Variables, clocks: u8) -> bool
-    requires { ⌜ variables .count ≤ 128 ⌝ }
-    ensures { λ r. ⌜ r ≡ v.allDeclared (v.declared variables) clocks ⌝ }
+    requires { ⌜ x.Indexed variables ⌝ }
+    ensures { λ r. ⌜ r ≡ v.allDeclared (x.declared variables) clocks ⌝ }
 {
     let mut k = clocks;
     while 0 < k {
@@ -150,26 +134,36 @@ pub fn all_declared(variables: Variables, clocks: u8) -> bool
     true
 }
 
-// No variables.
+// No variables: every bucket starts behind all that may come.
 pub fn none() -> Variables
-    ensures { λ r. ⌜ (r .count ≡ 0) × (v.declared r ≡ []) ⌝ }
+    ensures { λ r. ⌜ (x.declared r ≡ []) × x.Indexed r ⌝ }
 {
     Variables {
         ids: [0; 128],
         clocks: [0; 128],
         count: 0,
+        starts: [128; 241],
     }
+}
+
+// The lower of two.
+fn lower(one: u8, other: u8) -> u8
+    ensures { λ r. ⌜ (r ≤ one) × (r ≤ other) ⌝ }
+{
+    if one < other { one } else { other }
 }
 
 // One variable more, with the id that a number stands for.
 pub fn with_variable(variables: Variables, id: u64, clock: u8) -> Variables
-    requires { ⌜ variables .count < 128 ⌝ }
-    ensures { λ r. ⌜ (v.declared r ≡ v.declared variables ++ record { id = v.bytesOfCode 5 id; clock = clock } ∷ []) × (r .count ≤ 128) ⌝ }
+    requires { ⌜ (variables .count < 128) × x.Indexed variables ⌝ }
+    ensures { λ r. ⌜ (x.declared r ≡ x.declared variables ++ record { id = x.bytesOfCode 5 id; clock = clock } ∷ []) × x.Indexed r ⌝ }
 {
     let n = variables.count;
+    let b = bucket(id);
     let mut more = variables;
     more.ids[n] = id;
     more.clocks[n] = clock;
     more.count = n + 1;
+    more.starts[b] = lower(variables.starts[b], n as u8);
     more
 }

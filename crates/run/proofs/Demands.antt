@@ -19,7 +19,7 @@ use Rattle.run.specs.Refusals.{RunRefuses, by-table, by-reading, by-mill
 use Rattle.run.specs.Run.{Said, SaidDetermines, accepted, violated, refused, endingSaid, ran, runTable, withTable, runOf, zeros, tableOf, readingBy}
 use Rattle.run.specs.declared.Verdict.the-variants.{Accepted, Violated, Refused}
 use Rattle.run.proofs.JudgingLaws.{Split, split, judged-split}
-use Rattle.run.proofs.StepByStep.{single-steps}
+use Rattle.run.proofs.SingleSteps.{single-steps}
 
 -- ---- the run of a table that is refused, and of one that is read
 

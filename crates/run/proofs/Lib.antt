@@ -3,4 +3,4 @@ pub mod Demands
 pub mod JudgingLaws
 pub mod RunLaws
 pub mod SameExercise
-pub mod StepByStep
+pub mod SingleSteps

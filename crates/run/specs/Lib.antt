@@ -3,4 +3,4 @@ pub mod Demands
 pub mod Judgement
 pub mod Refusals
 pub mod Run
-pub mod WordByWord
+pub mod StepByStep

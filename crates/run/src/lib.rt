@@ -1,12 +1,11 @@
 // The whole run of a recording against a table: verdict, accepted steps, configuration.
 
+mod step_by_step;
 mod whole_run;
-mod word_by_word;
 
 use constraint::Configuration;
 use limit::Place;
 use limit::Refusal;
-use recording::Step;
 use recording::Time;
 pub use whole_run::run;
 
@@ -30,11 +29,10 @@ pub struct Report {
     pub configuration: Configuration,
 }
 
-// What was read and judged so far: the accepted steps, the configuration after them, and the open step.
+// What was judged so far: the accepted steps, and the configuration after them.
 pub struct Progress {
     pub configuration: Configuration,
     pub steps: Steps,
-    pub step: Step,
 }
 
 // The verdict so far. The run goes on after `Accepted` alone.

@@ -1,28 +1,29 @@
-// The whole run: the table, the recording's header, and its body word by word.
+// The whole run: the table, the recording's header, and its body step by step.
 use super::Next;
 use super::Progress;
 use super::Report;
 use super::Steps;
 use super::Verdict;
-use super::word_by_word::close;
-use super::word_by_word::goes_on;
-use super::word_by_word::mark_step;
-use super::word_by_word::turned;
+use super::step_by_step::close;
+use super::step_by_step::goes_on;
+use super::step_by_step::over;
 use constraint::Configuration;
 use constraint::Constraint;
 use constraint::Word;
 use limit::Check;
 use limit::Refusal;
+use recording::ChangesRead;
+use recording::Turn;
 use recording::Variables;
-use text::Class;
 ghost use mathlib.Core.Path.{_≡_};
 ghost use Prim.Native.Nat.{_≤_};
 ghost use lib.ListN.{length};
-ghost use Rattle.constraint.specs.Lists.{slots, brokenWord};
-ghost use Rattle.constraint.specs.declared.Broken.{Broken};
+ghost use Rattle.constraint.specs.Lists.{slots};
+ghost use Rattle.judging.specs.Code.{Ready};
+ghost use Rattle.recording.specs.Body.{bodySteps, unmarked};
 ghost use Rattle.recording.specs.Header.{words};
-ghost use Rattle.recording.specs.Variables.{declared};
-ghost use Rattle.run.specs.WordByWord as f;
+ghost use Rattle.recording.specs.Index.{Indexed, declared};
+ghost use Rattle.run.specs.StepByStep as f;
 ghost use Rattle.run.specs.Run as s;
 
 // What a run gives that is over.
@@ -50,51 +51,52 @@ fn judge_body(
     count: usize,
     configuration: Configuration,
 ) -> Report
-    requires { ⌜ (length (now recording) ≤ 65536) × (variables .count ≤ 128) × (count ≤ 64) × (brokenWord (slots count records) (configuration .words) ≡ Broken.Nowhere) ⌝ }
-    ensures { λ r. ⌜ s.told r ≡ s.ran count (f.judgeFrom (slots count records) (declared variables) (now (recording .entry)) (f.begins configuration) (words (now (recording .entry)) from)) ⌝ }
+    requires { ⌜ (length (now recording) ≤ 65536) × Indexed variables × Ready records count (configuration .words) ⌝ }
+    ensures { λ r. ⌜ s.told r ≡ s.ran count (f.judgeOn (slots count records) (f.begins configuration) (bodySteps (declared variables) (now (recording .entry)) unmarked (words (now (recording .entry)) from))) ⌝ }
 {
-    let starts = recording::index(&variables.ids, variables.count);
     let mut progress = Progress {
         configuration,
         steps: Steps(0),
-        step: recording::unmarked(),
     };
+    let mut step = recording::unmarked();
     let mut at = from;
-    while at < recording.len() {
-        let word = text::next_word(Class::Parting, recording, at);
-        if word.end <= word.start {
-            return report(count, close(records, count, progress));
-        }
-        let start = word.start;
-        if recording::opens_mark(text::part(recording, word)) {
-            let next = mark_step(records, count, progress, start, text::part(recording, word));
-            let verdict = next.verdict;
-            if !goes_on(verdict) {
-                return report(count, next);
-            }
-            progress = next.progress;
-            at = word.end;
-            continue;
-        }
-        let step = progress.step;
-        let turn = recording::change(
+    loop {
+        let read = recording::read_changes(
+            recording,
             &variables.ids,
             &variables.clocks,
             variables.count,
-            &starts,
+            &variables.starts,
             step,
-            start,
-            text::part(recording, word),
+            at,
         );
-        let outcome = turn.outcome;
-        if let Check::Refused(_) = outcome {
-            return report(count, turned(progress, turn));
+        match read {
+            ChangesRead::Refused(refusal) => {
+                return report(count, over(Verdict::Refused(refusal), progress));
+            }
+            ChangesRead::End(last) => {
+                return report(count, close(records, count, progress, last));
+            }
+            ChangesRead::Mark(closed, mark) => {
+                let next = close(records, count, progress, closed);
+                let verdict = next.verdict;
+                if !goes_on(verdict) {
+                    return report(count, next);
+                }
+                progress = next.progress;
+                let turn = recording::read_mark(recording, closed, mark);
+                match turn {
+                    Turn::Refused(refusal) => {
+                        return report(count, over(Verdict::Refused(refusal), progress));
+                    }
+                    Turn::Passed(begun) => {
+                        step = begun;
+                        at = mark.end;
+                    }
+                }
+            }
         }
-        let after = turn.step;
-        progress.step = after;
-        at = word.end;
     }
-    report(count, close(records, count, progress))
 }
 
 // A run that is refused before its first step.

@@ -12,7 +12,7 @@ returns-2 : tie.Need-returns-2
 returns-2 c = c .tick .ensures ∙ rw (c .before .if1 .taken, c .before .before .before .variable .given .1)
 
 returns-3 : tie.Need-returns-3
-returns-3 c = c .passed .ensures ∙ rw (c .before .if1 .left, c .before .before .before .variable .given .1)
+returns-3 c = rw (c .if1 .left, c .before .before .variable .given .1)
 
 pub found-spec : {M : Type 1} → statement M
 found-spec =
@@ -24,5 +24,4 @@ found-spec =
     returns
     (λ c κs. search needs)
     returns-2
-    (λ c κs. search needs)
     returns-3)

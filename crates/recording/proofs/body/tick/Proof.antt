@@ -7,8 +7,8 @@ use Rattle.recording.proofs.body.tick.Tie as tie
 
 returns-2 : tie.Need-returns-2
 returns-2 c =
-    let e = c .before .before in
-    c .passed .ensures ∙ (rw (c .before .with-tick .ensures) (sym (allows _ _ _ _ (sym (e .before .ticks .ensures) ∙ e .if1 .left))))
+    let e = c .before in
+    rw (c .with-tick .ensures) (sym (allows _ _ _ _ (sym (e .before .ticks .ensures) ∙ e .if1 .left)))
 
 pub tick-spec : {M : Type 1} → statement M
 tick-spec =
@@ -17,6 +17,5 @@ tick-spec =
     (λ c κs. search needs)
     (λ c κs. search needs)
     (λ c. c .stopped .ensures ∙ sym (refuses _ _ _ _ (sym (c .before .before .ticks .ensures) ∙ c .before .if1 .taken)))
-    (λ c κs. search needs)
     (λ c κs. search needs)
     returns-2)

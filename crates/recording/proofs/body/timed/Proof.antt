@@ -11,5 +11,4 @@ timed-spec =
     (tie.spec
     (λ c κs. search needs)
     (λ c. c .stopped .ensures ∙ sym (refuses _ _ _ _ (c .before .if1 .taken)))
-    (λ c κs. search needs)
-    (λ c. c .passed .ensures ∙ sym (allows _ _ _ _ (c .before .if1 .left))))
+    (λ c. sym (allows _ _ _ _ (c .if1 .left))))

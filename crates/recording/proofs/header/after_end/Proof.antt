@@ -5,8 +5,9 @@ use Prim.Native.Nat.{_≤_, _-_}
 use native.Mathlib.Omega.{arith}
 use denote.Ref.{now}
 use lib.ListN.{length}
-use Rattle.recording.specs.Header.{words, afterEnd}
-use Rattle.recording.proofs.HeaderLaws.{end-here, end-on, end-over}
+use Rattle.recording.specs.Answers.{afterEnd}
+use Rattle.recording.specs.Header.{words}
+use Rattle.recording.proofs.HeaderLaws.{end-stop, end-on, end-done}
 use borrow.Author.Needs.{needs}
 use Rattle.recording.proofs.header.after_end.Statement.{statement}
 use Rattle.recording.proofs.header.after_end.Tie as tie
@@ -26,7 +27,7 @@ returns c =
     let s = l .before .before in
     let f = w .ensures .forward (t .taken) in
     record {
-      left = sym (end-here (now (s .args .recording)) (l .loop .at) (w .result) (w .ensures) (rw (p .part .ensures) at (sym (c .before .is-end .ensures) ∙ c .if1 .taken))) ∙ l .loop .inv .1;
+      left = sym (end-stop (now (s .args .recording)) (l .loop .at) (w .result) (w .ensures) (rw (p .part .ensures) at (sym (c .before .is-end .ensures) ∙ c .if1 .taken))) ∙ l .loop .inv .1;
       forward = λ i h k. omega (arith, f, h, l .loop .inv .0);
     }
 
@@ -46,7 +47,7 @@ returns-2 : tie.Need-returns-2 Inv-loop μ-loop
 returns-2 c =
     let l = c .before in
     let s = l .before .before in
-    record { left = sym (end-over (now (s .args .recording)) (l .loop .at) (c .loop-test .left)) ∙ l .loop .inv .1; forward = λ i h k. k }
+    record { left = sym (end-done (now (s .args .recording)) (l .loop .at) (c .loop-test .left)) ∙ l .loop .inv .1; forward = λ i h k. k }
 
 pub after-end-spec : {M : Type 1} → statement M
 after-end-spec =

@@ -2,7 +2,7 @@
 -- The measure is what is left of the recording. Assumes nothing.
 use mathlib.Core.Path.{_≡_, refl, sym, _∙_}
 use mathlib.Core.List.{[]}
-use Prim.Native.Nat.{_≤_, _-_}
+use Prim.Native.Nat.{_-_}
 use native.Mathlib.Omega.{arith}
 use denote.Ref.{now}
 use lib.ListN.{length}
@@ -11,17 +11,18 @@ use Rattle.text.specs.Split.{bytesOf}
 use Rattle.text.specs.declared.Class.the-variants.{Parting}
 use Rattle.text.proofs.Runs.{is-last, words-over}
 use Rattle.recording.specs.Header.{words, commandOf, header}
-use Rattle.recording.specs.Variables.{clockNamed, declared}
+use Rattle.recording.specs.Variables.{clockNamed}
+use Rattle.recording.specs.Index.{Indexed, declared}
 use Rattle.recording.specs.declared.Command.{Command}
 use Rattle.limit.proofs.CheckLaws.{stops, goes-on, ends-there}
-use Rattle.recording.proofs.HeaderLaws.{header-cut, opens-skipped, opens-declaration, opens-definitions, opens-nothing}
+use Rattle.recording.proofs.HeaderLaws.{header-done, opens-skipped, opens-declaration, opens-definitions, opens-nothing}
 use borrow.Author.Needs.{needs}
 use Rattle.recording.proofs.header.commands.Statement.{statement}
 use Rattle.recording.proofs.header.commands.Tie as tie
 
 abbrev Inv-loop : tie.InvT-loop
 Inv-loop table names recording variables₀ at₀ variables at =
-    (variables .count ≤ 128)
+    Indexed variables
     × (header (clockNamed table names) (names .count) recording (declared variables) (words recording at)
     ≡ header (clockNamed table names) (names .count) recording [] (words recording 0))
 
@@ -34,14 +35,14 @@ opened : (c : tie.After-command Inv-loop μ-loop) (k : Command) → c .command .
 opened c k e = rw (c .before .part .ensures) at (sym (c .command .ensures) ∙ e)
 
 loop-holds : tie.Need-loop-holds Inv-loop μ-loop
-loop-holds c = let n = c .none .ensures in (rw (n .0) (omega arith), rw (n .1) refl)
+loop-holds c = let n = c .none .ensures in (n .1, rw (n .0) refl)
 
 returns : tie.Need-returns Inv-loop μ-loop
 returns c =
     let w = c .before .before .before .next-word in
     let l = c .before .before .before .before .before in
     let f = c .refused .ensures in
-    (stops _ _ _ _ (f .0) ∙ sym (header-cut _ _ _ _ _ (is-last _ (inClass Parting) _ (w .result) (w .ensures) (c .before .if1 .taken))) ∙ l .loop .inv .1, rw (f .1) (l .loop .inv .0))
+    (stops _ _ _ _ (f .0) ∙ sym (header-done _ _ _ _ _ (is-last _ (inClass Parting) _ (w .result) (w .ensures) (c .before .if1 .taken))) ∙ l .loop .inv .1, rw (f .1) (l .loop .inv .0))
 
 loop-less : tie.Need-loop-less Inv-loop μ-loop
 loop-less c =
@@ -63,7 +64,7 @@ returns-2 c =
     let w = k .before .before .before .before .next-word in
     let l = k .before .before .before .before .before .before in
     let m = opens-declaration _ _ _ _ _ (w .result) (w .ensures) (k .before .before .if1 .left) (opened k _ (c .before .before .before .enum-told2 .given .1)) in
-    (sym (ends-there _ _ _ _ (c .enum-told3 .given .1)) ∙ sym (d .ensures .says) ∙ sym m ∙ l .loop .inv .1, d .ensures .few)
+    (sym (ends-there _ _ _ _ (c .enum-told3 .given .1)) ∙ sym (d .ensures .says) ∙ sym m ∙ l .loop .inv .1, d .ensures .indexed)
 
 loop-less-2 : tie.Need-loop-less-2 Inv-loop μ-loop
 loop-less-2 c =
@@ -79,7 +80,7 @@ loop-again-2 c =
     let w = k .before .before .before .before .next-word in
     let l = k .before .before .before .before .before .before in
     let m = opens-declaration _ _ _ _ _ (w .result) (w .ensures) (k .before .before .if1 .left) (opened k _ (c .before .before .before .before .enum-told2 .given .1)) in
-    (d .ensures .few, sym (goes-on _ _ _ (c .before .enum-told4 .given .1)) ∙ sym (d .ensures .says) ∙ sym m ∙ l .loop .inv .1)
+    (d .ensures .indexed, sym (goes-on _ _ _ (c .before .enum-told4 .given .1)) ∙ sym (d .ensures .says) ∙ sym m ∙ l .loop .inv .1)
 
 returns-3 : tie.Need-returns-3 Inv-loop μ-loop
 returns-3 c =
@@ -101,7 +102,7 @@ returns-5 : tie.Need-returns-5 Inv-loop μ-loop
 returns-5 c =
     let l = c .before .before in
     let f = c .refused3 .ensures in
-    (stops _ _ _ _ (f .0) ∙ sym (header-cut _ _ _ _ _ (words-over _ (inClass Parting) _ (c .before .loop-test .left))) ∙ l .loop .inv .1, rw (f .1) (l .loop .inv .0))
+    (stops _ _ _ _ (f .0) ∙ sym (header-done _ _ _ _ _ (words-over _ (inClass Parting) _ (c .before .loop-test .left))) ∙ l .loop .inv .1, rw (f .1) (l .loop .inv .0))
 
 pub commands-spec : {M : Type 1} → statement M
 commands-spec =

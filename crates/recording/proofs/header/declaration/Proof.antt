@@ -14,7 +14,7 @@ returns c =
     let w = c .before .before .before .before .five-words in
     record {
       says = declaring-cut _ _ (w .result) (w .ensures) _ _ _ _ (c .before .if1 .taken) ∙ sym (stays-stopped _ _ _ _ (stops _ _ _ _ (f .0)));
-      few = rw (f .1) (c .before .before .before .before .before .before .before .pre);
+      indexed = rw (f .1) (c .before .before .before .before .before .before .before .pre);
       forward = λ e. let z : _≡_ {A = ℕ} 0 1 = cc in absurd (omega arith);
     }
 
@@ -25,7 +25,7 @@ returns-2 c =
     let w = e .before .before .before .five-words in
     record {
       says = declaring-five _ _ (w .result) (w .ensures) _ _ _ _ (e .if1 .left) ∙ then-same _ _ _ (sym (d .ensures .0)) ∙ left-after (d .result .outcome) _ _ _;
-      few = d .ensures .1;
+      indexed = d .ensures .1;
       forward = λ q. five-forward _ _ (w .result) (w .ensures) (e .if1 .left);
     }
 

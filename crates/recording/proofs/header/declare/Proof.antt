@@ -9,7 +9,8 @@ use Rattle.constraint.proofs.Walk.{length-mapped}
 use Rattle.text.specs.Split.{bytesOf}
 use Rattle.limit.specs.Checked.{passed}
 use Rattle.recording.specs.Header.{shaped}
-use Rattle.recording.specs.Variables.{clockNamed, lookUp, isDeclared, clockAgain, declared}
+use Rattle.recording.specs.Variables.{clockNamed, lookUp, isDeclared, clockAgain}
+use Rattle.recording.specs.Index.{declared}
 use Rattle.recording.proofs.HeaderLaws.{shaped-short, declare-shape, declare-twice, declare-full, declare-more}
 use Rattle.recording.proofs.VariableLaws.{length-variables, declared-more}
 use borrow.Author.Needs.{needs}
@@ -38,7 +39,7 @@ count-is c =
     let v = c .args .variables in
     let p : length (v .ids) ≡ 128 = search (needs, length-mapped) in
     let q : length (v .clocks) ≡ 128 = search (needs, length-mapped) in
-    length-variables (v .count) (v .ids) (v .clocks) (omega (arith, c .pre)) (omega (arith, c .pre))
+    length-variables (v .count) (v .ids) (v .clocks) (omega (arith, c .pre .few)) (omega (arith, c .pre .few))
 
 returns : tie.Need-returns
 returns c =

@@ -2,8 +2,9 @@
 use mathlib.Core.Path.{_≡_, refl, sym, _∙_}
 use native.Mathlib.Omega.{arith}
 use borrow.Author.Tests.{not-true, not-false}
-use Rattle.recording.specs.Variables.{declared, allDeclared}
-use Rattle.recording.proofs.VariableLaws.{all-stop, all-on, all-none}
+use Rattle.recording.specs.Variables.{allDeclared}
+use Rattle.recording.specs.Index.{declared}
+use Rattle.recording.proofs.VariableLaws.{all-stop, all-on, all-done}
 use borrow.Author.Needs.{needs}
 use Rattle.recording.proofs.lookup.all_declared.Statement.{statement}
 use Rattle.recording.proofs.lookup.all_declared.Tie as tie
@@ -27,7 +28,7 @@ loop-again c =
     sym (all-on _ (l .loop .k) _ (omega arith) (sym (h .ensures) ∙ not-false (h .result) (c .if1 .left))) ∙ l .loop .inv
 
 returns-2 : tie.Need-returns-2 Inv-loop μ-loop
-returns-2 c = sym (sym (c .before .loop .inv) ∙ all-none _ (c .before .loop .k) (omega arith))
+returns-2 c = sym (sym (c .before .loop .inv) ∙ all-done _ (c .before .loop .k) (omega arith))
 
 pub all-declared-spec : {M : Type 1} → statement M
 all-declared-spec =

@@ -3,7 +3,7 @@ use mathlib.Core.Path.{sym, ap, _∙_}
 use denote.Ref.{now}
 use lib.ListN.{getD}
 use native.Mathlib.Nat.{le-of-eq}
-use Rattle.recording.specs.Variables.{bucketOf}
+use Rattle.recording.specs.Index.{bucketOf}
 use Rattle.recording.proofs.VariableLaws.{look-long, look-short, starts-skip}
 use borrow.Author.Needs.{needs}
 use Rattle.recording.proofs.lookup.find_id.Statement.{statement}
@@ -19,7 +19,7 @@ returns-2 c =
     let a = s .args in
     let w = now (a .id) in
     c .search .ensures w (k .0) (e .if1 .left) (k .1)
-    ∙ starts-skip (a .count) (now (a .ids)) (now (a .clocks)) (now (a .starts)) w (s .pre .0) (s .pre .1) (e .if1 .left) (k .1) (s .pre .3) (c .before .wide .result)
+    ∙ starts-skip (a .count) (now (a .ids)) (now (a .clocks)) (now (a .starts)) w (s .pre) (e .if1 .left) (k .1) (c .before .wide .result)
     (le-of-eq (wide ∙ ap (λ i. getD (now (a .starts)) i 0) (b .bucket .ensures .0 ∙ ap bucketOf (k .0))))
     ∙ sym (look-short _ _ (e .if1 .left))
 

@@ -4,8 +4,9 @@ use Prim.Native.Nat.{_≤_, _-_}
 use native.Mathlib.Omega.{arith}
 use lib.ListN.{length, drop}
 use Rattle.constraint.proofs.Walk.{length-mapped}
-use Rattle.recording.specs.Variables.{hasClock, declared}
-use Rattle.recording.proofs.VariableLaws.{clock-here, clock-on, clock-none}
+use Rattle.recording.specs.Variables.{hasClock}
+use Rattle.recording.specs.Index.{declared}
+use Rattle.recording.proofs.VariableLaws.{clock-stop, clock-on, clock-done}
 use borrow.Author.Needs.{needs}
 use Rattle.recording.proofs.lookup.has_clock.Statement.{statement}
 use Rattle.recording.proofs.lookup.has_clock.Tie as tie
@@ -22,7 +23,7 @@ returns c =
     let a = l .before .args in
     let p : length (a .t1 .ids) ≡ 128 = search (needs, length-mapped) in
     let q : length (a .t1 .clocks) ≡ 128 = search (needs, length-mapped) in
-    sym (sym (l .loop .inv .1) ∙ clock-here (a .t1 .count) (a .t1 .ids) (a .t1 .clocks) (l .loop .i) (a .clock) (omega arith) (omega arith) (omega arith) (c .if1 .taken))
+    sym (sym (l .loop .inv .1) ∙ clock-stop (a .t1 .count) (a .t1 .ids) (a .t1 .clocks) (l .loop .i) (a .clock) (omega arith) (omega arith) (omega arith) (c .if1 .taken))
 
 loop-again : tie.Need-loop-again Inv-loop μ-loop
 loop-again c =
@@ -36,7 +37,7 @@ returns-2 : tie.Need-returns-2 Inv-loop μ-loop
 returns-2 c =
     let l = c .before in
     let a = l .before .args in
-    sym (sym (l .loop .inv .1) ∙ clock-none (a .t1 .count) (a .t1 .ids) (a .t1 .clocks) (l .loop .i) (a .clock) (omega arith))
+    sym (sym (l .loop .inv .1) ∙ clock-done (a .t1 .count) (a .t1 .ids) (a .t1 .clocks) (l .loop .i) (a .clock) (omega arith))
 
 pub has-clock-spec : {M : Type 1} → statement M
 has-clock-spec =

@@ -4,8 +4,9 @@ use mathlib.Core.List.{List}
 use Prim.Native.Nat.{ℕ, _≤_, _-_}
 use denote.Ref.{now}
 use lib.ListN.{drop, length}
-use Rattle.recording.specs.Variables.{withId, variablesOf, codeOf, Bytes}
-use Rattle.recording.proofs.VariableLaws.{id-here, id-on, id-none}
+use Rattle.recording.specs.Variables.{withId}
+use Rattle.recording.specs.Index.{variablesOf, codeOf, Bytes}
+use Rattle.recording.proofs.VariableLaws.{id-stop, id-on, id-done}
 use borrow.Author.Needs.{needs}
 use Rattle.recording.proofs.lookup.search.Statement.{statement}
 use Rattle.recording.proofs.lookup.search.Tie as tie
@@ -23,7 +24,7 @@ returns c = λ w e short t.
     let l = turn .before in
     let s = l .before in
     let a = s .args in
-    sym (sym (l .loop .inv w e short t) ∙ id-here (a .count) (now (a .ids)) (now (a .clocks)) (l .loop .i) w (turn .loop-test .taken) (s .pre .0) (s .pre .1) short t (c .before .if1 .taken ∙ e))
+    sym (sym (l .loop .inv w e short t) ∙ id-stop (a .count) (now (a .ids)) (now (a .clocks)) (l .loop .i) w (turn .loop-test .taken) (s .pre .0) (s .pre .1) short t (c .before .if1 .taken ∙ e))
 
 loop-again : tie.Need-loop-again Inv-loop μ-loop
 loop-again c = λ w e short t.
@@ -37,7 +38,7 @@ returns-2 : tie.Need-returns-2 Inv-loop μ-loop
 returns-2 c = λ w e short t.
     let l = c .before in
     let a = l .before .args in
-    sym (sym (l .loop .inv w e short t) ∙ id-none (a .count) (now (a .ids)) (now (a .clocks)) (l .loop .i) w (c .loop-test .left))
+    sym (sym (l .loop .inv w e short t) ∙ id-done (a .count) (now (a .ids)) (now (a .clocks)) (l .loop .i) w (c .loop-test .left))
 
 pub search-spec : {M : Type 1} → statement M
 search-spec =

@@ -1,163 +1,136 @@
 -- `judge_body` meets its contract. The invariant: what is left to judge, from the words from at on, is what was to be judged at the start;
 -- the words are in range, and there are no more steps than bytes. The measure is what is left of the recording. Assumes nothing.
 use mathlib.Core.Path.{_≡_, refl, sym, ap, _∙_}
-use mathlib.Core.Bool.{true, false}
-use Prim.Native.Nat.{_-_, _≤_}
+use Prim.Native.Nat.{_-_, _≤_, _<_}
 use native.Mathlib.Omega.{arith}
 use borrow.Author.Tests.{not-true, not-false}
 use denote.Ref.{now}
 use lib.ListN.{length}
+use Rattle.limit.specs.Checked.{Checked}
 use Rattle.constraint.specs.Lists.{slots}
-use Rattle.text.specs.Bytes.{inClass}
-use Rattle.text.specs.Split.{bytesOf}
-use Rattle.text.specs.declared.Class.the-variants.{Parting}
-use Rattle.text.proofs.Runs.{is-word, is-last, words-over}
-use Rattle.recording.specs.Body.{opensMark, changeTurn, turnAs}
+use Rattle.text.specs.declared.Span.{Span}
+use Rattle.recording.specs.Answers.{turnAs, behindChanges}
+use Rattle.recording.specs.Body.{onward, bodySteps, unmarked}
 use Rattle.recording.specs.Header.{words}
-use Rattle.recording.specs.Variables.{declared}
-use Rattle.recording.proofs.BodyLaws.{opens-byte}
-use Rattle.run.specs.WordByWord.{markStep, judgeFrom, endOf, begins}
+use Rattle.recording.specs.Index.{declared}
+use Rattle.recording.specs.declared.ChangesRead.{ChangesRead}
+use Rattle.recording.specs.declared.ChangesRead.the-variants.{Mark}
+use Rattle.recording.specs.declared.Step.{Step}
+use Rattle.recording.specs.declared.Turn.{Turn}
+use Rattle.run.specs.StepByStep.{judgeOn, endOf, begins}
 use Rattle.run.specs.Run.{ran}
-use Rattle.run.proofs.RunLaws.{Kept, kept-mark, mark-on, mark-stop, change-on, change-stop, run-ends}
+use Rattle.run.proofs.RunLaws.{Kept, kept-closed, closed-stop, closed-on, closed-done, refused-stop}
 use borrow.Author.Needs.{needs}
 use Rattle.run.proofs.whole_run.judge_body.Statement.{statement}
 use Rattle.run.proofs.whole_run.judge_body.Tie as tie
 
 abbrev Inv-loop : tie.InvT-loop
-Inv-loop recording from records count variables starts progress₀ at₀ progress at =
+Inv-loop recording from records count variables progress₀ step₀ at₀ progress step at =
     Kept (slots count records) at progress
     × (progress .steps .0 ≤ length recording)
-    × (judgeFrom (slots count records) (declared variables) recording progress (words recording at) ≡ judgeFrom (slots count records) (declared variables) recording progress₀ (words recording from))
+    × (judgeOn (slots count records) progress (bodySteps (declared variables) recording step (words recording at)) ≡ judgeOn (slots count records) progress₀ (bodySteps (declared variables) recording step₀ (words recording from)))
 
 abbrev μ-loop : tie.MeasureT-loop
-μ-loop recording from records count variables starts progress₀ at₀ progress at = length recording - at
-
--- what is left is what was to be judged
-from-start : (l : tie.At-loop Inv-loop μ-loop) →
-    let s = l .before .before .before .before .before .before .before .args in
-    judgeFrom (slots (s .count) (s .records)) (declared (s .t3)) (now (s .recording)) (l .loop .progress) (words (now (s .recording)) (l .loop .at))
-    ≡ judgeFrom (slots (s .count) (s .records)) (declared (s .t3)) (now (s .recording)) (begins (s .configuration)) (words (now (s .recording)) (s .from))
-from-start l = l .loop .inv .2 ∙ rw (l .before .unmarked .ensures)
+μ-loop recording from records count variables progress₀ step₀ at₀ progress step at = length recording - at
 
 loop-holds : tie.Need-loop-holds Inv-loop μ-loop
-loop-holds c = (record { ready = c .before .before .before .before .before .before .pre .3; few = omega arith }, omega arith, refl)
+loop-holds c = (record { ready = c .before .before .pre .2 .inside; few = omega arith }, omega arith, refl)
 
-close-requires : tie.Need-close-requires Inv-loop μ-loop
-close-requires c κs =
-    let l = c .before .before .before .before in
-    let s = l .before .before .before .before .before .before .before in
-    (s .pre .2, l .loop .inv .0 .ready, omega (arith, l .loop .inv .1, s .pre .0))
+-- what is left behind the changes that were read is what was to be judged
+start : (c : tie.After-read-changes Inv-loop μ-loop) (m : ChangesRead) → c .read-changes .result ≡ m →
+    let l = c .before .before .before .before .before .before .before .before in
+    let s = l .before .before .before .args in
+    judgeOn (slots (s .count) (s .records)) (l .loop .progress) (behindChanges (declared (s .t3)) (now (s .recording)) m)
+    ≡ judgeOn (slots (s .count) (s .records)) (begins (s .configuration)) (bodySteps (declared (s .t3)) (now (s .recording)) unmarked (words (now (s .recording)) (s .from)))
+start c m q =
+    let l = c .before .before .before .before .before .before .before .before in
+    let s = l .before .before .before .args in
+    ap (λ (x : ChangesRead). judgeOn (slots (s .count) (s .records)) (l .loop .progress) (behindChanges (declared (s .t3)) (now (s .recording)) x)) (sym q)
+    ∙ ap (judgeOn (slots (s .count) (s .records)) (l .loop .progress)) (c .read-changes .ensures .left)
+    ∙ l .loop .inv .2
+    ∙ rw (l .before .unmarked .ensures)
+
+-- a mark stands further on
+forward : (c : tie.After-read-changes Inv-loop μ-loop) (o : Step) (w : Span) → c .read-changes .result ≡ Mark o w →
+    let l = c .before .before .before .before .before .before .before .before in
+    (l .loop .at < length (now (l .before .before .before .args .recording))) × (l .loop .at < w .end)
+forward c o w q = rw q at (c .read-changes .ensures .forward)
 
 returns : tie.Need-returns Inv-loop μ-loop
 returns c =
-    let w = c .before .before .before .before .next-word in
-    let l = c .before .before .before .before .before .before in
-    let none = is-last _ (inClass Parting) _ (w .result) (w .ensures) (c .before .before .if1 .taken) in
-    c .report .ensures ∙ ap (ran _) (ap endOf (c .before .close .ensures) ∙ sym (run-ends _ _ _ _ _ none) ∙ from-start l)
+    let t = c .before .before .before in
+    c .report .ensures ∙ ap (ran _) (ap endOf (c .before .over .ensures) ∙ sym (refused-stop _ _ _) ∙ start (t .before .before) _ (t .read .given .1))
 
--- the word at hand opens a mark
-opens : (c : tie.After-part2 Inv-loop μ-loop) → opensMark (bytesOf (now (c .before .before .before .before .before .before .before .before .before .before .before .before .before .before .before .args .recording)) (c .before .before .before .before .before .before .next-word .result)) ≡ true
-opens c =
-    let o = c .before .before in
-    rw (o .before .part .ensures) at (sym (o .opens-mark .ensures) ∙ c .before .if2 .taken)
-
-mark-step-requires : tie.Need-mark-step-requires Inv-loop μ-loop
-mark-step-requires c κs =
-    let l = c .before .before .before .before .before .before .before .before in
-    let s = l .before .before .before .before .before .before .before in
-    (s .pre .2, l .loop .inv .0 .ready, omega (arith, l .loop .inv .1, s .pre .0), rw (c .part2 .ensures) (opens-byte (bytesOf (now (s .args .recording)) (c .before .before .before .before .before .before .next-word .result)) (opens c)))
-
--- what the mark does
-marks : (c : tie.After-mark-step Inv-loop μ-loop) →
-    let s = c .before .before .before .before .before .before .before .before .before .before .before .before .before .before .before .before .args in
-    let w = c .before .before .before .before .before .before .before .next-word .result in
-    c .mark-step .result ≡ markStep (slots (s .count) (s .records)) (c .before .before .before .before .before .before .before .before .before .loop .progress) (w .start) (bytesOf (now (s .recording)) w)
-marks c = c .mark-step .ensures ∙ rw (c .before .part2 .ensures)
+close-requires : tie.Need-close-requires Inv-loop μ-loop
+close-requires c κs =
+    let l = c .before .before .before .before .before .before .before .before .before .before .before in
+    let s = l .before .before .before in
+    (record { room = s .pre .2 .room; inside = l .loop .inv .0 .ready }, omega (arith, l .loop .inv .1, s .pre .0))
 
 returns-2 : tie.Need-returns-2 Inv-loop μ-loop
 returns-2 c =
-    let g = c .before .before in
-    let m = g .before in
-    let l = m .before .before .before .before .before .before .before .before .before in
-    let w = m .before .before .before .before .before .before .before .next-word in
-    let some = is-word _ (inClass Parting) _ (w .result) (w .ensures) (m .before .before .before .before .before .if1 .left) in
-    c .report2 .ensures ∙ ap (ran _) (sym (mark-stop _ _ _ _ _ _ (w .result) some (opens (m .before)) _ (marks m) (sym (g .goes-on .ensures) ∙ not-true (g .goes-on .result) (c .before .if3 .taken))) ∙ from-start l)
-
-loop-less : tie.Need-loop-less Inv-loop μ-loop
-loop-less c =
-    let w = c .before .before .before .before .before .before .before .before .before .before in
-    omega (arith, w .next-word .ensures .forward (w .before .loop-test .taken), w .before .loop-test .taken)
-
-loop-again : tie.Need-loop-again Inv-loop μ-loop
-loop-again c =
-    let e = c .before in
-    let g = e .before in
-    let m = g .before in
-    let l = m .before .before .before .before .before .before .before .before .before in
-    let s = l .before .before .before .before .before .before .before .args in
-    let n = m .before .before .before .before .before .before .before in
-    let w = n .next-word in
-    let forward = w .ensures .forward (n .before .loop-test .taken) in
-    let some = is-word _ (inClass Parting) _ (w .result) (w .ensures) (m .before .before .before .before .before .if1 .left) in
-    let kept = kept-mark (slots (s .count) (s .records)) (l .loop .progress) (w .result .start) (bytesOf (now (s .recording)) (w .result)) (l .loop .inv .0 .ready) in (
-      rw (marks m) (record { ready = kept .ready; few = omega (arith, kept .few, l .loop .inv .0 .few, forward) }),
-      rw (marks m) (omega (arith, kept .few, l .loop .inv .0 .few, n .before .loop-test .taken)),
-      sym (mark-on _ _ _ _ _ _ (w .result) some (opens (m .before)) _ (marks m) (sym (g .goes-on .ensures) ∙ not-false (g .goes-on .result) (e .if3 .left))) ∙ l .loop .inv .2,
-    )
-
-change-requires : tie.Need-change-requires Inv-loop μ-loop
-change-requires c κs =
-    let l = c .before .before .before .before .before .before .before .before .before .before .before .before .before .before .before in
-    (search needs, search needs, search needs, l .before .before .index .ensures)
-
--- the word at hand opens no mark, and what it does
-module _ (c : tie.After-change Inv-loop μ-loop) where
-  opens-not : opensMark (bytesOf (now (c .before .before .before .before .before .before .before .before .before .before .before .before .before .before .before .before .before .before .before .before .before .before .before .args .recording)) (c .before .before .before .before .before .before .before .before .before .before .before .before .before .before .next-word .result)) ≡ false
-  opens-not = let o = c .before .before .before .before .before .before .before .before .before .before in rw (o .before .part .ensures) at (sym (o .opens-mark .ensures) ∙ c .before .before .before .before .before .before .before .before .before .if2 .left)
-
-  changes :
-      let s = c .before .before .before .before .before .before .before .before .before .before .before .before .before .before .before .before .before .before .before .before .before .before .before .args in
-      let w = c .before .before .before .before .before .before .before .before .before .before .before .before .before .before .next-word .result in
-      turnAs (c .change .result) ≡ changeTurn (declared (s .t3)) (c .before .before .before .before .before .before .before .before .before .before .before .before .before .before .before .before .loop .progress .step) (w .start) (bytesOf (now (s .recording)) w)
-  changes = c .change .ensures ∙ rw (c .before .part3 .ensures)
-
-returns-3 : tie.Need-returns-3 Inv-loop μ-loop
-returns-3 c =
-    let t = c .before in
-    let k = t .before .before .before in
-    let l = k .before .before .before .before .before .before .before .before .before .before .before .before .before .before .before .before in
-    let w = k .before .before .before .before .before .before .before .before .before .before .before .before .before .before .next-word in
-    let some = is-word _ (inClass Parting) _ (w .result) (w .ensures) (k .before .before .before .before .before .before .before .before .before .before .before .before .if1 .left) in
-    c .report3 .ensures ∙ ap (ran _) (ap endOf (t .turned .ensures) ∙ sym (change-stop _ _ _ _ _ _ (w .result) some (opens-not k) _ (changes k) _ (t .before .enum-told .given .1)) ∙ from-start l)
-
-loop-less-2 : tie.Need-loop-less-2 Inv-loop μ-loop
-loop-less-2 c =
-    let w = c .before .before .before .before .before .before .before .before .before .before .before .before .before .before .before .before .before in
-    omega (arith, w .next-word .ensures .forward (w .before .loop-test .taken), w .before .loop-test .taken)
-
-loop-again-2 : tie.Need-loop-again-2 Inv-loop μ-loop
-loop-again-2 c =
-    let k = c .before .before .before in
-    let l = k .before .before .before .before .before .before .before .before .before .before .before .before .before .before .before .before in
-    let n = k .before .before .before .before .before .before .before .before .before .before .before .before .before .before in
-    let w = n .next-word in
-    let forward = w .ensures .forward (n .before .loop-test .taken) in
-    let some = is-word _ (inClass Parting) _ (w .result) (w .ensures) (k .before .before .before .before .before .before .before .before .before .before .before .before .if1 .left) in (
-      record { ready = l .loop .inv .0 .ready; few = omega (arith, l .loop .inv .0 .few, forward) },
-      l .loop .inv .1,
-      sym (change-on _ _ _ _ _ _ (w .result) some (opens-not k) _ (changes k) (c .before .enum-told2 .given .1)) ∙ l .loop .inv .2,
-    )
+    let t = c .before .before .before in
+    let n = c .before .close in
+    c .report2 .ensures ∙ ap (ran _) (sym (closed-done _ _ _ (n .result) (n .ensures)) ∙ start (t .before .before) _ (t .read2 .given .1))
 
 close-requires-2 : tie.Need-close-requires-2 Inv-loop μ-loop
 close-requires-2 c κs =
-    let l = c .before in
-    let s = l .before .before .before .before .before .before .before in
-    (s .pre .2, l .loop .inv .0 .ready, omega (arith, l .loop .inv .1, s .pre .0))
+    let l = c .before .before .before .before .before .before .before .before .before .before .before in
+    let s = l .before .before .before in
+    (record { room = s .pre .2 .room; inside = l .loop .inv .0 .ready }, omega (arith, l .loop .inv .1, s .pre .0))
+
+returns-3 : tie.Need-returns-3 Inv-loop μ-loop
+returns-3 c =
+    let g = c .before .before in
+    let n = g .before .close2 in
+    let t = g .before .before .before in
+    c .report3 .ensures
+    ∙ ap (ran _) (sym (closed-stop _ _ _ (n .result) (n .ensures) _ (sym (g .goes-on .ensures) ∙ not-true (g .goes-on .result) (c .before .if1 .taken))) ∙ start (t .before .before) _ (t .read3 .given .1))
+
+-- the step was accepted: what the mark begins is left
+begins-next : (c : tie.After-read-mark Inv-loop μ-loop) (m : Turn) → c .read-mark .result ≡ m →
+    let g = c .before .before .before in
+    let t = g .before .before .before in
+    let s = t .before .before .before .before .before .before .before .before .before .before .before .before .before .args in
+    judgeOn (slots (s .count) (s .records)) (g .before .close2 .result .progress) (onward (turnAs m) (λ p. bodySteps (declared (s .t3)) (now (s .recording)) p (words (now (s .recording)) (t .read3 .given .0 .1 .0 .end))))
+    ≡ judgeOn (slots (s .count) (s .records)) (begins (s .configuration)) (bodySteps (declared (s .t3)) (now (s .recording)) unmarked (words (now (s .recording)) (s .from)))
+begins-next c m q =
+    let g = c .before .before .before in
+    let n = g .before .close2 in
+    let t = g .before .before .before in
+    let s = t .before .before .before .before .before .before .before .before .before .before .before .before .before .args in
+    ap (λ (x : Checked Step). judgeOn (slots (s .count) (s .records)) (n .result .progress) (onward x (λ p. bodySteps (declared (s .t3)) (now (s .recording)) p (words (now (s .recording)) (t .read3 .given .0 .1 .0 .end)))))
+    (ap turnAs (sym q) ∙ c .read-mark .ensures)
+    ∙ sym (closed-on _ _ _ (n .result) (n .ensures) _ (sym (g .goes-on .ensures) ∙ not-false (g .goes-on .result) (c .before .before .if1 .left)))
+    ∙ start (t .before .before) _ (t .read3 .given .1)
 
 returns-4 : tie.Need-returns-4 Inv-loop μ-loop
+unfolding onward
 returns-4 c =
-    let e = c .before .before in
-    c .report4 .ensures ∙ ap (ran _) (ap endOf (c .before .close2 .ensures) ∙ sym (run-ends _ _ _ _ _ (words-over _ (inClass Parting) _ (e .loop-test .left))) ∙ from-start (e .before))
+    let t = c .before .before .before in
+    c .report4 .ensures ∙ ap (ran _) (ap endOf (c .before .over2 .ensures) ∙ sym (refused-stop _ _ _) ∙ begins-next (t .before .before) _ (t .turn .given .1))
+
+loop-less : tie.Need-loop-less Inv-loop μ-loop
+loop-less c =
+    let t = c .before .before .before .before .before .before .before .before .before in
+    let further = forward (t .before .before) _ _ (t .read3 .given .1) in
+    omega (arith, further .0, further .1)
+
+loop-again : tie.Need-loop-again Inv-loop μ-loop
+unfolding onward
+loop-again c =
+    let u = c .before in
+    let g = u .before .before .before .before .before in
+    let n = g .before .close2 in
+    let t = g .before .before .before in
+    let l = t .before .before .before .before .before .before .before .before .before .before in
+    let s = l .before .before .before .args in
+    let further = forward (t .before .before) _ _ (t .read3 .given .1) in
+    let kept = kept-closed (slots (s .count) (s .records)) (l .loop .progress) (t .read3 .given .0 .0) (l .loop .inv .0 .ready) in (
+      rw (n .ensures) (record { ready = kept .ready; few = omega (arith, kept .few, l .loop .inv .0 .few, further .1) }),
+      rw (n .ensures) (omega (arith, kept .few, l .loop .inv .0 .few, further .0)),
+      rw (l .before .unmarked .ensures) (begins-next (u .before .before) _ (u .turn2 .given .1)),
+    )
 
 pub judge-body-spec : {M : Type 1} → statement M
 judge-body-spec =
@@ -166,31 +139,26 @@ judge-body-spec =
     Inv-loop
     μ-loop
     (λ c κs. search needs)
-    (λ c κs. search needs)
     loop-holds
     (λ c κs. search needs)
-    close-requires
+    (λ c. search needs)
+    (λ c κs. search needs)
     (λ c κs. search needs)
     returns
-    (λ c κs. search needs)
-    (λ c κs. search needs)
-    (λ c κs. search needs)
-    mark-step-requires
-    (λ c κs. search needs)
+    (λ c. search needs)
+    close-requires
     (λ c κs. search needs)
     returns-2
-    loop-less
-    loop-again
     (λ c. search needs)
-    (λ c κs. search needs)
-    change-requires
-    (λ c. search needs)
+    close-requires-2
     (λ c κs. search needs)
     (λ c κs. search needs)
     returns-3
-    (λ c. search needs)
-    loop-less-2
-    loop-again-2
-    close-requires-2
     (λ c κs. search needs)
-    returns-4)
+    (λ c. search needs)
+    (λ c κs. search needs)
+    (λ c κs. search needs)
+    returns-4
+    (λ c. search needs)
+    loop-less
+    loop-again)

@@ -31,7 +31,7 @@ judge-body-requires c κs =
     let m = h .before .before .before .before .before in
     let q = m .before .before .read-table in
     let p = table-passes _ (now (m .before .before .before .before .before .args .recording)) (q .result) (q .ensures) (m .enum-told .given .1) in
-    (header-within _ _ (q .result) (q .ensures) (m .enum-told .given .1) (h .read-header .result) (h .read-header .ensures .0) (c .before .enum-told2 .given .1), h .read-header .ensures .1, p .constraints, rw (h .before .start-words .ensures) (p .words))
+    (header-within _ _ (q .result) (q .ensures) (m .enum-told .given .1) (h .read-header .result) (h .read-header .ensures .0) (c .before .enum-told2 .given .1), h .read-header .ensures .1, record { room = p .constraints; inside = rw (h .before .start-words .ensures) (p .words) })
 
 returns-3 : tie.Need-returns-3
 returns-3 c =

@@ -1,8 +1,8 @@
 -- `line_at` meets its contract. Assumes nothing.
 use Rattle.constraint.proofs.Slots.{slot-is, slot-past}
 use borrow.Author.Needs.{needs}
-use Rattle.run.proofs.word_by_word.line_at.Statement.{statement}
-use Rattle.run.proofs.word_by_word.line_at.Tie as tie
+use Rattle.run.proofs.step_by_step.line_at.Statement.{statement}
+use Rattle.run.proofs.step_by_step.line_at.Tie as tie
 
 pub line-at-spec : {M : Type 1} → statement M
 line-at-spec =

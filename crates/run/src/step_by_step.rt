@@ -1,4 +1,4 @@
-// The run word by word: the open step is closed, marks and changes are read.
+// The run step by step: a step that is closed is judged.
 use super::Next;
 use super::Progress;
 use super::Steps;
@@ -10,14 +10,13 @@ use judging::judge;
 use limit::Limit;
 use limit::Place;
 use limit::Refusal;
-use recording::Turn;
+use recording::Step;
 ghost use mathlib.Core.Path.{_≡_};
 ghost use Prim.Native.Nat.{_+_, _≤_, _<_, _^_};
-ghost use lib.ListN.{length, getD};
-ghost use Rattle.constraint.specs.Lists.{empty, slots, brokenWord};
-ghost use Rattle.constraint.specs.declared.Broken.{Broken};
-ghost use Rattle.recording.specs.Body.{turnAs};
-ghost use Rattle.run.specs.WordByWord as f;
+ghost use lib.ListN.{getD};
+ghost use Rattle.constraint.specs.Lists.{empty, slots};
+ghost use Rattle.judging.specs.Code.{Ready};
+ghost use Rattle.run.specs.StepByStep as f;
 ghost use Rattle.run.specs.Run.{lineOf};
 
 // Whether the run goes on after a verdict.
@@ -40,7 +39,7 @@ fn on(progress: Progress) -> Next
     }
 }
 
-fn over(verdict: Verdict, progress: Progress) -> Next
+pub fn over(verdict: Verdict, progress: Progress) -> Next
     ensures { λ r. ⌜ r ≡ f.over verdict progress ⌝ }
 {
     Next { verdict, progress }
@@ -69,13 +68,18 @@ fn line_of(records: [Constraint; 64], count: usize, place: Place) -> Place
     line_at(records, count, place.0 - 1)
 }
 
-// The open step as judged.
-fn settle(records: [Constraint; 64], count: usize, progress: Progress, judged: Judged) -> Next
+// A step as judged.
+fn settle(
+    records: [Constraint; 64],
+    count: usize,
+    progress: Progress,
+    step: Step,
+    judged: Judged,
+) -> Next
     requires { ⌜ (count ≤ 64) × (progress .steps .0 + 1 < 2 ^ 64) ⌝ }
-    ensures { λ r. ⌜ r ≡ f.settles (slots count records) progress judged ⌝ }
+    ensures { λ r. ⌜ r ≡ f.settles (slots count records) progress step judged ⌝ }
 {
     let outcome = judged.outcome;
-    let step = progress.step;
     let steps = progress.steps;
     match outcome {
         Outcome::Held => {
@@ -83,7 +87,6 @@ fn settle(records: [Constraint; 64], count: usize, progress: Progress, judged: J
             on(Progress {
                 configuration,
                 steps: Steps(steps.0 + 1),
-                step,
             })
         }
         Outcome::Failed(place) => {
@@ -106,12 +109,11 @@ fn settle(records: [Constraint; 64], count: usize, progress: Progress, judged: J
     }
 }
 
-// The open step judged, where there is one.
-pub fn close(records: [Constraint; 64], count: usize, progress: Progress) -> Next
-    requires { ⌜ (count ≤ 64) × (brokenWord (slots count records) (progress .configuration .words) ≡ Broken.Nowhere) × (progress .steps .0 + 1 < 2 ^ 64) ⌝ }
-    ensures { λ r. ⌜ r ≡ f.closed (slots count records) progress ⌝ }
+// A step that is closed is judged, where a mark has begun one.
+pub fn close(records: [Constraint; 64], count: usize, progress: Progress, step: Step) -> Next
+    requires { ⌜ Ready records count (progress .configuration .words) × (progress .steps .0 + 1 < 2 ^ 64) ⌝ }
+    ensures { λ r. ⌜ r ≡ f.closed (slots count records) progress step ⌝ }
 {
-    let step = progress.step;
     if !step.begun {
         return on(progress);
     }
@@ -120,47 +122,7 @@ pub fn close(records: [Constraint; 64], count: usize, progress: Progress) -> Nex
         records,
         count,
         progress,
+        step,
         judge(records, count, configuration, step.ticks),
     )
-}
-
-// The open step after a word.
-pub fn turned(progress: Progress, turn: Turn) -> Next
-    ensures { λ r. ⌜ r ≡ f.turned progress (turnAs turn) ⌝ }
-{
-    let outcome = turn.outcome;
-    match outcome {
-        limit::Check::Passed => {
-            let step = turn.step;
-            let configuration = progress.configuration;
-            let steps = progress.steps;
-            on(Progress {
-                configuration,
-                steps,
-                step,
-            })
-        }
-        limit::Check::Refused(refusal) => over(Verdict::Refused(refusal), progress),
-    }
-}
-
-// A word that opens with `#`.
-pub fn mark_step(
-    records: [Constraint; 64],
-    count: usize,
-    progress: Progress,
-    at: usize,
-    word: &[u8],
-) -> Next
-    requires { ⌜ (count ≤ 64) × (brokenWord (slots count records) (progress .configuration .words) ≡ Broken.Nowhere) × (progress .steps .0 + 1 < 2 ^ 64) × (1 ≤ length (now word)) ⌝ }
-    ensures { λ r. ⌜ r ≡ f.markStep (slots count records) progress at (now (word .entry)) ⌝ }
-{
-    let next = close(records, count, progress);
-    let verdict = next.verdict;
-    if !goes_on(verdict) {
-        return next;
-    }
-    let after = next.progress;
-    let step = after.step;
-    turned(after, recording::mark(step, at, &word[1..]))
 }

@@ -2,8 +2,8 @@
 use mathlib.Core.Path.{ap, _∙_}
 use Rattle.limit.specs.declared.Place.{Place}
 use borrow.Author.Needs.{needs}
-use Rattle.run.proofs.word_by_word.line_of.Statement.{statement}
-use Rattle.run.proofs.word_by_word.line_of.Tie as tie
+use Rattle.run.proofs.step_by_step.line_of.Statement.{statement}
+use Rattle.run.proofs.step_by_step.line_of.Tie as tie
 
 pub line-of-spec : {M : Type 1} → statement M
 line-of-spec =

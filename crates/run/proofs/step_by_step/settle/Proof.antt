@@ -1,8 +1,8 @@
 -- `settle` meets its contract: in each arm the outcome is known. Assumes nothing.
 use mathlib.Core.Path.{_∙_}
 use borrow.Author.Needs.{needs}
-use Rattle.run.proofs.word_by_word.settle.Statement.{statement}
-use Rattle.run.proofs.word_by_word.settle.Tie as tie
+use Rattle.run.proofs.step_by_step.settle.Statement.{statement}
+use Rattle.run.proofs.step_by_step.settle.Tie as tie
 
 returns-2 : tie.Need-returns-2
 returns-2 c = c .over .ensures ∙ rw (c .before .line-of .ensures, c .before .before .before .before .outcome .given .1)
