@@ -8,7 +8,8 @@ use Rattle.text.specs.Bytes.{inClass}
 use Rattle.text.specs.Split.{bytesOf, front, rest, NextWord}
 use Rattle.text.specs.declared.Class.the-variants.{Space}
 use Rattle.text.specs.declared.Span.{Span}
-use Rattle.grammar.specs.Grammar.{Parsed, noForm, parsed, andThen, onlyIf, Placed, Formed, Kinded, Operands, lineWords, token, clockAt, operand, kindAt, strictKind, plain, isKind, sides, second, pair, awaitNumber, awaitSide, expression, isSide, defining, atEnd, closed, lineForm, operandRead, formRead}
+use Rattle.grammar.specs.Answers.{operandRead, formRead}
+use Rattle.grammar.specs.Grammar.{Parsed, noForm, parsed, andThen, onlyIf, Placed, Formed, Kinded, Operands, lineWords, token, clockAt, operand, kindAt, strictKind, plain, isKind, sides, second, pair, awaitNumber, awaitSide, expression, isSide, defining, atEnd, closed, lineForm}
 use Rattle.constraint.specs.declared.Definition.the-variants.{Await as AwaitKind}
 use Rattle.constraint.specs.declared.Kind.{Kind}
 use Rattle.constraint.specs.declared.Kind.the-variants.{Defines}

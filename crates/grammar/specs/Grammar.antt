@@ -23,11 +23,8 @@ use Rattle.text.specs.declared.Span.{Span}
 use Rattle.grammar.specs.Names.{numberIn}
 use Rattle.grammar.specs.Tokens.{is, tokenOf}
 use Rattle.grammar.specs.declared.Builder.{Builder}
-use Rattle.grammar.specs.declared.FormRead.{FormRead}
 use Rattle.grammar.specs.declared.Found.{Found}
 use Rattle.grammar.specs.declared.Found.the-variants.{At, Nothing}
-use Rattle.grammar.specs.declared.KindRead.{KindRead}
-use Rattle.grammar.specs.declared.OperandRead.{OperandRead}
 use Rattle.grammar.specs.declared.Token.{Token}
 use Rattle.grammar.specs.declared.Token.the-variants.{End, Other, Name, Digits, ClockDef, Await, Strictly, Form}
 
@@ -188,14 +185,3 @@ lineForm t operands b ws =
     cond (is Name (token t ws) && is ClockDef (token t (rest ws)))
     (closed true (clockAt t b (front t ws)) (expression t operands b (rest (rest ws))))
     (closed false 0 (pair t operands b ws))
-
--- ---- what the readers in code answer stands for
-
-abbrev pub operandRead : List ℕ → OperandRead → Parsed Placed
-operandRead t r = onlyIf (r .fits) (parsed (record { builder = r .builder; clock = r .clock }) (lineWords t (r .at)))
-
-abbrev pub kindRead : List ℕ → KindRead → Kinded
-kindRead t r = record { kind = r .kind; after = lineWords t (r .at) }
-
-abbrev pub formRead : List ℕ → FormRead → Parsed Formed
-formRead t r = onlyIf (r .fits) (parsed (record { builder = r .builder; constraint = r .constraint }) (lineWords t (r .at)))

@@ -1,3 +1,4 @@
+pub mod Answers
 pub mod Grammar
 pub mod Names
 pub mod Tokens

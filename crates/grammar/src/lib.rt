@@ -7,7 +7,6 @@ mod words;
 
 use constraint::Constraint;
 use constraint::Kind;
-use limit::Place;
 pub use line::await_number;
 pub use line::is_name;
 pub use line::line_form;
@@ -48,11 +47,10 @@ pub struct Table {
     pub names: Names,
 }
 
-// The table so far, the clocks that it defines as a tick set, and the line that is read.
+// The table so far, and the clocks that it defines, as a tick set.
 pub struct Builder {
     pub table: Table,
     pub defined: u32,
-    pub line: Place,
 }
 
 // What an operand's reader answers: whether an operand stands there, where it ends, the table with it, and its clock.

@@ -20,6 +20,7 @@ use text::Span;
 ghost use mathlib.Core.Path.{_≡_};
 ghost use mathlib.Core.Bool.{false};
 ghost use Rattle.text.specs.Split.{bytesOf};
+ghost use Rattle.grammar.specs.Answers as a;
 ghost use Rattle.grammar.specs.Grammar as g;
 ghost use Rattle.grammar.specs.Tokens.{is};
 ghost use Rattle.grammar.specs.declared.Token.the-variants.{Name, ClockDef};
@@ -45,7 +46,7 @@ fn clock_at(line: &[u8], builder: Builder, word: Span) -> u8
 
 // An operand: the name of a clock.
 pub fn operand(line: &[u8], builder: Builder, at: usize) -> OperandRead
-    ensures { λ r. ⌜ g.operandRead (now (line .entry)) r ≡ g.operand (now (line .entry)) builder (g.lineWords (now (line .entry)) at) ⌝ }
+    ensures { λ r. ⌜ a.operandRead (now (line .entry)) r ≡ g.operand (now (line .entry)) builder (g.lineWords (now (line .entry)) at) ⌝ }
 {
     let word = text::next_word(Class::Space, line, at);
     let token = token_at(line, word);
@@ -123,7 +124,7 @@ fn plain(token: Token) -> Kind
 
 // A kind: one word, or two where the first is `strictly`.
 fn kind_at(line: &[u8], at: usize) -> KindRead
-    ensures { λ r. ⌜ g.kindRead (now (line .entry)) r ≡ g.kindAt (now (line .entry)) (g.lineWords (now (line .entry)) at) ⌝ }
+    ensures { λ r. ⌜ a.kindRead (now (line .entry)) r ≡ g.kindAt (now (line .entry)) (g.lineWords (now (line .entry)) at) ⌝ }
 {
     let word = text::next_word(Class::Space, line, at);
     let token = token_at(line, word);
@@ -178,7 +179,7 @@ fn no_form(builder: Builder) -> FormRead
 
 // Two operands with a kind between them.
 fn pair(line: &[u8], builder: Builder, at: usize) -> FormRead
-    ensures { λ r. ⌜ g.formRead (now (line .entry)) r ≡ g.pair (now (line .entry)) (g.operand (now (line .entry))) builder (g.lineWords (now (line .entry)) at) ⌝ }
+    ensures { λ r. ⌜ a.formRead (now (line .entry)) r ≡ g.pair (now (line .entry)) (g.operand (now (line .entry))) builder (g.lineWords (now (line .entry)) at) ⌝ }
 {
     let a = operand(line, builder, at);
     if !a.fits {
@@ -221,7 +222,7 @@ pub fn await_number(digits: &[u8]) -> u32
 
 // A number and an operand, behind `await`.
 fn await_side(line: &[u8], builder: Builder, at: usize) -> FormRead
-    ensures { λ r. ⌜ g.formRead (now (line .entry)) r ≡ g.awaitSide (now (line .entry)) (g.operand (now (line .entry))) builder (g.lineWords (now (line .entry)) at) ⌝ }
+    ensures { λ r. ⌜ a.formRead (now (line .entry)) r ≡ g.awaitSide (now (line .entry)) (g.operand (now (line .entry))) builder (g.lineWords (now (line .entry)) at) ⌝ }
 {
     let number = text::next_word(Class::Space, line, at);
     let token = token_at(line, number);
@@ -244,7 +245,7 @@ fn await_side(line: &[u8], builder: Builder, at: usize) -> FormRead
 
 // A right side of clockDef.
 fn expression(line: &[u8], builder: Builder, at: usize) -> FormRead
-    ensures { λ r. ⌜ g.formRead (now (line .entry)) r ≡ g.expression (now (line .entry)) (g.operand (now (line .entry))) builder (g.lineWords (now (line .entry)) at) ⌝ }
+    ensures { λ r. ⌜ a.formRead (now (line .entry)) r ≡ g.expression (now (line .entry)) (g.operand (now (line .entry))) builder (g.lineWords (now (line .entry)) at) ⌝ }
 {
     let word = text::next_word(Class::Space, line, at);
     let token = token_at(line, word);
@@ -267,7 +268,7 @@ fn is_side(definition: bool, kind: Kind) -> bool
 
 // A form of the side that the line asks for, with no word after it, which defines a clock.
 fn closed(line: &[u8], definition: bool, clock: u8, form: FormRead) -> FormRead
-    ensures { λ r. ⌜ g.formRead (now (line .entry)) r ≡ g.closed definition clock (g.formRead (now (line .entry)) form) ⌝ }
+    ensures { λ r. ⌜ a.formRead (now (line .entry)) r ≡ g.closed definition clock (a.formRead (now (line .entry)) form) ⌝ }
 {
     let builder = form.builder;
     if !form.fits {
@@ -310,7 +311,7 @@ fn is_clock_def(token: Token) -> bool
 
 // A line: a clock, clockDef and a right side, or a relation.
 pub fn line_form(line: &[u8], builder: Builder, at: usize) -> FormRead
-    ensures { λ r. ⌜ g.formRead (now (line .entry)) r ≡ g.lineForm (now (line .entry)) (g.operand (now (line .entry))) builder (g.lineWords (now (line .entry)) at) ⌝ }
+    ensures { λ r. ⌜ a.formRead (now (line .entry)) r ≡ g.lineForm (now (line .entry)) (g.operand (now (line .entry))) builder (g.lineWords (now (line .entry)) at) ⌝ }
 {
     let clock = text::next_word(Class::Space, line, at);
     let second = text::next_word(Class::Space, line, clock.end);

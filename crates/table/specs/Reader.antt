@@ -6,11 +6,10 @@ use mathlib.Core.List.{List, [], _∷_}
 use Prim.Native.Nat.{ℕ, _+_, _≤_}
 use lib.Dec.{eqb, ltb, leb}
 use lib.ListN.{length, take, drop, set, replicate}
+use Rattle.limit.specs.Checked.{Checked, passed, stopped, refuseIf, andThen}
 use Rattle.limit.specs.Limit.{numberOf}
 use Rattle.limit.specs.declared.Limit.{Limit}
 use Rattle.limit.specs.declared.Limit.the-variants.{TableLength, LineByte, LineForm, NameLength, AwaitNumber, ClockTwice, DefinedTwice, TableClocks, TableConstraints}
-use Rattle.limit.specs.declared.Place.{Place}
-use Rattle.limit.specs.declared.Refusal.{Refusal}
 use Rattle.constraint.specs.Lists.{empty, slots, brokenRecord, brokenWord, startWords}
 use Rattle.constraint.specs.Meaning.{definedOf}
 use Rattle.constraint.specs.Ticks.{any, bits, withTicks}
@@ -26,7 +25,6 @@ use Rattle.grammar.specs.Tokens.{is, tokenOf}
 use Rattle.grammar.specs.declared.Builder.{Builder}
 use Rattle.table.specs.declared.WordCheck.{WordCheck}
 use Rattle.table.specs.declared.WordCheck.the-variants.{LongName, BadNumber, Twice}
-use Rattle.table.specs.declared.LineRead.{LineRead}
 use Rattle.limit.specs.declared.Check.{Check}
 use Rattle.limit.specs.declared.Check.the-variants.{Passed, Refused}
 use Rattle.grammar.specs.declared.Table.{Table}
@@ -60,76 +58,55 @@ fails LongName t w ws = longName t w
 fails BadNumber t w ws = badNumber t w ws
 fails Twice t w ws = twice t w ws
 
--- ---- what a line does: the table with it, or the first refusal
-
-pub data Step : Type 0 where
-  next : Builder → Step
-  stopped : Limit → Place → Step
-
-abbrev pub stop : Limit → Builder → Step
-stop l b = stopped l (b .line)
-
-unfoldable pub refuseIf : Bool → Limit → Builder → Step → Step
-refuseIf true l b s = stop l b
-refuseIf false l b s = s
+-- ---- what a line does to the table so far: the table with it, or the first limit that it breaks, with the line's number n as its place
 
 -- the constraint on its line, in the next slot
-abbrev pub onItsLine : Place → Constraint → Constraint
-onItsLine p r = record { kind = r .kind; defined = r .defined; first = r .first; second = r .second; parameter = r .parameter; line = p }
+abbrev pub onItsLine : ℕ → Constraint → Constraint
+onItsLine n r = record { kind = r .kind; defined = r .defined; first = r .first; second = r .second; parameter = r .parameter; line = record { 0 = n } }
 
-abbrev pub withConstraint : Builder → Constraint → Builder
-withConstraint b r =
+abbrev pub withConstraint : Builder → ℕ → Constraint → Builder
+withConstraint b n r =
     cond (leb 64 (b .table .count)) b
     (record {
-      table = record { records = set (b .table .records) (b .table .count) (onItsLine (b .line) r); count = b .table .count + 1; names = b .table .names };
+      table = record { records = set (b .table .records) (b .table .count) (onItsLine n r); count = b .table .count + 1; names = b .table .names };
       defined = withTicks (b .defined) (definedOf r);
-      line = b .line;
     })
 
 -- 16 the clock it defines already defined by an earlier line; 17 a 33rd clock; 18 a 65th constraint
-unfoldable pub addLine : Builder → Constraint → Step
-addLine b r =
-    refuseIf (any (bits (b .defined)) (definedOf r)) DefinedTwice b
-    (refuseIf (b .table .names .over) TableClocks b
-    (refuseIf (leb 64 (b .table .count)) TableConstraints b
-    (next (withConstraint b r))))
+unfoldable pub addLine : ℕ → Builder → Constraint → Checked Builder
+addLine n b r =
+    refuseIf (any (bits (b .defined)) (definedOf r)) DefinedTwice n
+    (refuseIf (b .table .names .over) TableClocks n
+    (refuseIf (leb 64 (b .table .count)) TableConstraints n
+    (passed (withConstraint b n r))))
 
 -- 12 no form fits; then 13, 14, 15, and 16 to 18
-unfoldable pub formStep : List ℕ → Builder → List Span → Parsed Formed → Step
-formStep t b ws noForm = stop LineForm b
-formStep t b ws (parsed f us) =
-    refuseIf (anyWord (fails LongName t) ws) NameLength b
-    (refuseIf (anyWord (fails BadNumber t) ws) AwaitNumber b
-    (refuseIf (anyWord (fails Twice t) ws) ClockTwice b
-    (addLine (f .builder) (f .constraint))))
+unfoldable pub formStep : List ℕ → ℕ → Builder → List Span → Parsed Formed → Checked Builder
+formStep t n b ws noForm = stopped LineForm n
+formStep t n b ws (parsed f us) =
+    refuseIf (anyWord (fails LongName t) ws) NameLength n
+    (refuseIf (anyWord (fails BadNumber t) ws) AwaitNumber n
+    (refuseIf (anyWord (fails Twice t) ws) ClockTwice n
+    (addLine n (f .builder) (f .constraint))))
 
 -- the clocks are numbered in the order in which the words stand
 abbrev pub withNames : List ℕ → Builder → List Span → Builder
 withNames t b ws = record {
   table = record { records = b .table .records; count = b .table .count; names = withWords t (b .table .names) ws };
   defined = b .defined;
-  line = b .line;
 }
 
-abbrev pub wordsStep : List ℕ → Builder → List Span → Step
-wordsStep t b ws = formStep t b ws (lineForm t (operand t) (withNames t b ws) ws)
+abbrev pub wordsStep : List ℕ → ℕ → Builder → List Span → Checked Builder
+wordsStep t n b ws = formStep t n b ws (lineForm t (operand t) (withNames t b ws) ws)
 
 -- blank lines mean nothing
-unfoldable pub unlessBlank : List ℕ → Builder → List Span → Step
-unlessBlank t b [] = next b
-unlessBlank t b (w ∷ ws) = wordsStep t b (w ∷ ws)
+unfoldable pub unlessBlank : List ℕ → ℕ → Builder → List Span → Checked Builder
+unlessBlank t n b [] = passed b
+unlessBlank t n b (w ∷ ws) = wordsStep t n b (w ∷ ws)
 
 -- 11 byte outside 32 to 126. t is the text up to the line's end, from the line's start
-abbrev pub lineStep : List ℕ → Builder → ℕ → Step
-lineStep t b from = refuseIf (not (allBytes (inClass Printable) (drop from t))) LineByte b (unlessBlank t b (lineWords t from))
-
--- what a line's reader in code answers stands for
-unfoldable pub step : Check → Builder → Step
-step Passed b = next b
-step (Refused r) b = stopped (r .limit) (r .place)
-
-abbrev pub stepOf : LineRead → Step
-stepOf r = step (r .outcome) (r .builder)
+abbrev pub lineStep : List ℕ → ℕ → Builder → ℕ → Checked Builder
+lineStep t n b from = refuseIf (not (allBytes (inClass Printable) (drop from t))) LineByte n (unlessBlank t n b (lineWords t from))
 
 -- ---- the table
 
@@ -138,16 +115,9 @@ pub data Said : Type 0 where
   read : Said
   refused : (number place : ℕ) → Said
 
-abbrev pub said : Check → Said
-said Passed = read
-said (Refused r) = refused (numberOf (r .limit)) (r .place .0)
-
 pub record Told : Type 0 where
   pub said : Said
   pub table : Table
-
-abbrev pub told : TableRead → Told
-told r = record { said = said (r .outcome); table = r .table }
 
 -- a refused table leaves all records empty, and names nothing
 abbrev pub emptyTable : Table
@@ -157,29 +127,32 @@ emptyTable = record {
   names = record { spans = replicate 32 (span 0 0); count = 0; over = false };
 }
 
-abbrev pub refusedTable : Refusal → Told
-refusedTable r = record { said = refused (numberOf (r .limit)) (r .place .0); table = emptyTable }
+abbrev pub tellOf : Checked Table → Told
+tellOf (passed b) = record { said = read; table = b }
+tellOf (stopped l p) = record { said = refused (numberOf l) p; table = emptyTable }
+
+-- what the reader in code answers stands for
+abbrev pub said : Check → Said
+said Passed = read
+said (Refused r) = refused (numberOf (r .limit)) (r .place .0)
+
+abbrev pub told : TableRead → Told
+told r = record { said = said (r .outcome); table = r .table }
 
 abbrev pub start : Builder
-start = record { table = emptyTable; defined = 0; line = record { 0 = 0 } }
-
-abbrev pub onLine : ℕ → Builder → Builder
-onLine n b = record { table = b .table; defined = b .defined; line = record { 0 = n } }
-
-unfoldable pub andThen : Step → (Builder → Told) → Told
-andThen (next b) f = f b
-andThen (stopped l p) f = refusedTable (record { limit = l; place = p })
+start = record { table = emptyTable; defined = 0 }
 
 -- line by line, from line n on
-unfoldable pub readLines : List ℕ → ℕ → Builder → List Span → Told
-readLines t n b [] = record { said = read; table = b .table }
-readLines t n b (l ∷ ls) = andThen (lineStep (take (l .end) t) (onLine n b) (l .start)) (λ c. readLines t (n + 1) c ls)
+unfoldable pub readLines : List ℕ → ℕ → Builder → List Span → Checked Table
+readLines t n b [] = passed (b .table)
+readLines t n b (l ∷ ls) = andThen (lineStep (take (l .end) t) n b (l .start)) (λ c. readLines t (n + 1) c ls)
 
 -- 10 over 4,096 bytes
+abbrev pub mostBytes : ℕ
+mostBytes = 4_096
+
 unfoldable pub readTable : List ℕ → Told
-readTable t =
-    cond (leb (length t) 4_096) (readLines t 1 start (piecesAt (inClass Newline) t 0))
-    (refusedTable (record { limit = TableLength; place = record { 0 = 0 } }))
+readTable t = tellOf (refuseIf (ltb mostBytes (length t)) TableLength 0 (readLines t 1 start (piecesAt (inClass Newline) t 0)))
 
 -- ---- a theorem: the calls on records refuse nothing that the reader made
 

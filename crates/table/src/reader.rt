@@ -19,6 +19,7 @@ use limit::Refusal;
 use text::Class;
 use text::Span;
 ghost use mathlib.Core.Path.{_≡_};
+ghost use Rattle.limit.specs.Checked.{stopped, checked};
 ghost use Rattle.text.specs.Split.{bytesOf};
 ghost use Rattle.grammar.specs.Grammar.{lineWords};
 ghost use Rattle.table.specs.Reader as d;
@@ -99,56 +100,52 @@ fn any_word(check: WordCheck, line: &[u8], from: usize) -> bool
 }
 
 // The answer that a line breaks a limit.
-fn refuse(builder: Builder, limit: Limit) -> LineRead
-    ensures { λ r. ⌜ d.stepOf r ≡ d.stop limit builder ⌝ }
+fn refuse(builder: Builder, limit: Limit, place: Place) -> LineRead
+    ensures { λ r. ⌜ checked (r .outcome) (r .builder) ≡ stopped limit (place .0) ⌝ }
 {
-    let place = builder.line;
     LineRead {
         outcome: Check::Refused(Refusal { limit, place }),
         builder,
     }
 }
 
-// The table with one constraint more, on the line that is read.
-fn with_constraint(builder: Builder, constraint: Constraint) -> Builder
-    ensures { λ r. ⌜ r ≡ d.withConstraint builder constraint ⌝ }
+// The table with one constraint more, on its line.
+fn with_constraint(builder: Builder, place: Place, constraint: Constraint) -> Builder
+    ensures { λ r. ⌜ r ≡ d.withConstraint builder (place .0) constraint ⌝ }
 {
-    let table = builder.table;
+    let mut table = builder.table;
     let count = table.count;
     if 64 <= count {
         return builder;
     }
-    let line = builder.line;
     let mut own = constraint;
-    own.line = line;
-    let mut more = table;
-    more.records[count] = own;
-    more.count = count + 1;
+    own.line = place;
+    table.records[count] = own;
+    table.count = count + 1;
     Builder {
-        table: more,
+        table,
         defined: constraint::with_defined(builder.defined, own),
-        line,
     }
 }
 
 // Checks 16, 17 and 18 of a line's constraint.
-fn add_line(builder: Builder, constraint: Constraint) -> LineRead
-    ensures { λ r. ⌜ d.stepOf r ≡ d.addLine builder constraint ⌝ }
+fn add_line(builder: Builder, place: Place, constraint: Constraint) -> LineRead
+    ensures { λ r. ⌜ checked (r .outcome) (r .builder) ≡ d.addLine (place .0) builder constraint ⌝ }
 {
     let table = builder.table;
     let names = table.names;
     if constraint::defines_again(builder.defined, constraint) {
-        return refuse(builder, Limit::DefinedTwice);
+        return refuse(builder, Limit::DefinedTwice, place);
     }
     if names.over {
-        return refuse(builder, Limit::TableClocks);
+        return refuse(builder, Limit::TableClocks, place);
     }
     if 64 <= table.count {
-        return refuse(builder, Limit::TableConstraints);
+        return refuse(builder, Limit::TableConstraints, place);
     }
     LineRead {
         outcome: Check::Passed,
-        builder: with_constraint(builder, constraint),
+        builder: with_constraint(builder, place, constraint),
     }
 }
 
@@ -159,7 +156,6 @@ fn with_names(line: &[u8], builder: Builder, from: usize) -> Builder
     let table = builder.table;
     let records = table.records;
     let names = table.names;
-    let place = builder.line;
     Builder {
         table: Table {
             records,
@@ -167,42 +163,41 @@ fn with_names(line: &[u8], builder: Builder, from: usize) -> Builder
             names: with_words(line, names, from),
         },
         defined: builder.defined,
-        line: place,
     }
 }
 
 // Checks 12 to 18 of a line that has words.
-fn read_words(line: &[u8], builder: Builder, from: usize) -> LineRead
-    ensures { λ r. ⌜ d.stepOf r ≡ d.wordsStep (now (line .entry)) builder (lineWords (now (line .entry)) from) ⌝ }
+fn read_words(line: &[u8], builder: Builder, place: Place, from: usize) -> LineRead
+    ensures { λ r. ⌜ checked (r .outcome) (r .builder) ≡ d.wordsStep (now (line .entry)) (place .0) builder (lineWords (now (line .entry)) from) ⌝ }
 {
     let form = line_form(line, with_names(line, builder, from), from);
     if !form.fits {
-        return refuse(builder, Limit::LineForm);
+        return refuse(builder, Limit::LineForm, place);
     }
     if any_word(WordCheck::LongName, line, from) {
-        return refuse(builder, Limit::NameLength);
+        return refuse(builder, Limit::NameLength, place);
     }
     if any_word(WordCheck::BadNumber, line, from) {
-        return refuse(builder, Limit::AwaitNumber);
+        return refuse(builder, Limit::AwaitNumber, place);
     }
     if any_word(WordCheck::Twice, line, from) {
-        return refuse(builder, Limit::ClockTwice);
+        return refuse(builder, Limit::ClockTwice, place);
     }
     let formed = form.builder;
     let constraint = form.constraint;
-    add_line(formed, constraint)
+    add_line(formed, place, constraint)
 }
 
 // A line, from an offset of the text that ends with it.
-fn read_line(line: &[u8], builder: Builder, from: usize) -> LineRead
-    ensures { λ r. ⌜ d.stepOf r ≡ d.lineStep (now (line .entry)) builder from ⌝ }
+fn read_line(line: &[u8], builder: Builder, place: Place, from: usize) -> LineRead
+    ensures { λ r. ⌜ checked (r .outcome) (r .builder) ≡ d.lineStep (now (line .entry)) (place .0) builder from ⌝ }
 {
     if !text::all_from(Class::Printable, line, from) {
-        return refuse(builder, Limit::LineByte);
+        return refuse(builder, Limit::LineByte, place);
     }
     let word = text::next_word(Class::Space, line, from);
     if word.start < word.end {
-        return read_words(line, builder, from);
+        return read_words(line, builder, place, from);
     }
     LineRead {
         outcome: Check::Passed,
@@ -227,22 +222,12 @@ fn empty_table() -> Table
 
 // The answer that a table breaks a limit.
 fn refused(refusal: Refusal) -> TableRead
-    ensures { λ r. ⌜ d.told r ≡ d.refusedTable refusal ⌝ }
+    ensures { λ r. ⌜ d.told r ≡ d.tellOf (stopped (refusal .limit) (refusal .place .0)) ⌝ }
 {
     TableRead {
         outcome: Check::Refused(refusal),
         table: empty_table(),
     }
-}
-
-// The builder on a line.
-fn on_line(builder: Builder, line: usize) -> Builder
-    ensures { λ r. ⌜ r ≡ d.onLine line builder ⌝ }
-{
-    let place = Place(line);
-    let mut moved = builder;
-    moved.line = place;
-    moved
 }
 
 // The table that a text says, or the first refusal.
@@ -258,13 +243,12 @@ pub fn read_table(text: &[u8]) -> TableRead
     let mut builder = Builder {
         table: empty_table(),
         defined: 0,
-        line: Place(0),
     };
     let mut line = 1;
     let mut at = 0;
     while at <= text.len() {
         let end = text::run_end(Class::Newline, false, text, at);
-        let step = read_line(&text[..end], on_line(builder, line), at);
+        let step = read_line(&text[..end], builder, Place(line), at);
         let outcome = step.outcome;
         if let Check::Refused(refusal) = outcome {
             return refused(refusal);

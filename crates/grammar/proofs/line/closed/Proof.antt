@@ -5,7 +5,7 @@ use denote.Ref.{now}
 use Rattle.text.specs.Bytes.{inClass}
 use Rattle.text.specs.declared.Class.the-variants.{Space}
 use Rattle.text.proofs.Runs.{is-last, is-word}
-use Rattle.grammar.specs.Grammar.{formRead}
+use Rattle.grammar.specs.Answers.{formRead}
 use Rattle.grammar.proofs.GrammarLaws.{form-not, closed-none, ended-more, ended-side, ended-read}
 use borrow.Author.Needs.{needs}
 use Rattle.grammar.proofs.line.closed.Statement.{statement}

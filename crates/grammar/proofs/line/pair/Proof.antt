@@ -2,7 +2,8 @@
 use mathlib.Core.Path.{refl, sym, _∙_}
 use borrow.Author.Tests.{not-true, not-false}
 use denote.Ref.{now}
-use Rattle.grammar.specs.Grammar.{lineWords, operand, kindRead}
+use Rattle.grammar.specs.Answers.{kindRead}
+use Rattle.grammar.specs.Grammar.{lineWords, operand}
 use Rattle.grammar.proofs.GrammarLaws.{operand-not, operand-is, form-not, form-is, pair-none, pair-kind, pair-second, pair-some}
 use borrow.Author.Needs.{needs}
 use Rattle.grammar.proofs.line.pair.Statement.{statement}

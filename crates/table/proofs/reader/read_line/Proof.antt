@@ -5,7 +5,7 @@ use denote.Ref.{now}
 use Rattle.text.specs.Bytes.{inClass}
 use Rattle.text.specs.declared.Class.the-variants.{Space}
 use Rattle.text.proofs.Runs.{is-last, is-word}
-use Rattle.table.proofs.ReaderLaws.{step-read, refused-11, blank, to-words}
+use Rattle.table.proofs.ReaderLaws.{refused-11, blank, to-words}
 use borrow.Author.Needs.{needs}
 use Rattle.table.proofs.reader.read_line.Statement.{statement}
 use Rattle.table.proofs.reader.read_line.Tie as tie
@@ -14,7 +14,7 @@ returns : tie.Need-returns
 returns c =
     let a = c .before .before in
     let s = a .before .before .args in
-    c .refuse .ensures ∙ sym (refused-11 (now (s .line)) (s .builder) (s .from) (sym (a .all-from .ensures) ∙ not-true _ (c .before .if1 .taken)))
+    c .refuse .ensures ∙ sym (refused-11 (now (s .line)) (s .place .0) (s .builder) (s .from) (sym (a .all-from .ensures) ∙ not-true _ (c .before .if1 .taken)))
 
 returns-2 : tie.Need-returns-2
 returns-2 c =
@@ -22,7 +22,7 @@ returns-2 c =
     let a = n .before .before in
     let s = a .before .before .args in
     let t = now (s .line) in
-    c .read-words .ensures ∙ sym (to-words t (s .builder) (s .from) (sym (a .all-from .ensures) ∙ not-false _ (n .before .if1 .left)) _ _ (is-word t (inClass Space) (s .from) (n .next-word .result) (n .next-word .ensures) (c .before .if2 .taken)))
+    c .read-words .ensures ∙ sym (to-words t (s .place .0) (s .builder) (s .from) (sym (a .all-from .ensures) ∙ not-false _ (n .before .if1 .left)) _ _ (is-word t (inClass Space) (s .from) (n .next-word .result) (n .next-word .ensures) (c .before .if2 .taken)))
 
 returns-3 : tie.Need-returns-3
 returns-3 c =
@@ -30,7 +30,7 @@ returns-3 c =
     let a = n .before .before in
     let s = a .before .before .args in
     let t = now (s .line) in
-    step-read _ ∙ sym (blank t (s .builder) (s .from) (sym (a .all-from .ensures) ∙ not-false _ (n .before .if1 .left)) (is-last t (inClass Space) (s .from) (n .next-word .result) (n .next-word .ensures) (c .if2 .left)))
+    sym (blank t (s .place .0) (s .builder) (s .from) (sym (a .all-from .ensures) ∙ not-false _ (n .before .if1 .left)) (is-last t (inClass Space) (s .from) (n .next-word .result) (n .next-word .ensures) (c .if2 .left)))
 
 pub read-line-spec : {M : Type 1} → statement M
 read-line-spec =

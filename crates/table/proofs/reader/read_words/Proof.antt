@@ -2,7 +2,8 @@
 use mathlib.Core.Path.{_≡_, sym, _∙_}
 use borrow.Author.Tests.{not-true, not-false}
 use denote.Ref.{now}
-use Rattle.grammar.specs.Grammar.{parsed, lineWords, operand, lineForm, formRead}
+use Rattle.grammar.specs.Answers.{formRead}
+use Rattle.grammar.specs.Grammar.{parsed, lineWords, operand, lineForm}
 use Rattle.table.specs.Reader.{withNames}
 use Rattle.grammar.proofs.GrammarLaws.{form-not, form-is}
 use Rattle.table.proofs.ReaderLaws.{refused-12, refused-13, refused-14, refused-15, to-add}
@@ -25,7 +26,7 @@ returns c =
     let f = c .before .before .before in
     let s = f .before .before .before .args in
     let t = now (s .line) in
-    c .refuse .ensures ∙ sym (refused-12 t (s .builder) (lineWords t (s .from)) _ (sym (form f) ∙ form-not t (f .line-form .result) (not-true _ (c .before .if1 .taken))))
+    c .refuse .ensures ∙ sym (refused-12 t (s .place .0) (s .builder) (lineWords t (s .from)) _ (sym (form f) ∙ form-not t (f .line-form .result) (not-true _ (c .before .if1 .taken))))
 
 returns-2 : tie.Need-returns-2
 returns-2 c =
@@ -33,7 +34,7 @@ returns-2 c =
     let f = a .before .before .before in
     let s = f .before .before .before .args in
     let t = now (s .line) in
-    c .refuse2 .ensures ∙ sym (refused-13 t (s .builder) (lineWords t (s .from)) _ _ _ (fits (a .before)) (sym (a .any-word .ensures) ∙ c .before .if2 .taken))
+    c .refuse2 .ensures ∙ sym (refused-13 t (s .place .0) (s .builder) (lineWords t (s .from)) _ _ _ (fits (a .before)) (sym (a .any-word .ensures) ∙ c .before .if2 .taken))
 
 returns-3 : tie.Need-returns-3
 returns-3 c =
@@ -42,7 +43,7 @@ returns-3 c =
     let f = a .before .before .before in
     let s = f .before .before .before .args in
     let t = now (s .line) in
-    c .refuse3 .ensures ∙ sym (refused-14 t (s .builder) (lineWords t (s .from)) _ _ _ (fits (a .before)) (sym (a .any-word .ensures) ∙ b .before .if2 .left) (sym (b .any-word2 .ensures) ∙ c .before .if3 .taken))
+    c .refuse3 .ensures ∙ sym (refused-14 t (s .place .0) (s .builder) (lineWords t (s .from)) _ _ _ (fits (a .before)) (sym (a .any-word .ensures) ∙ b .before .if2 .left) (sym (b .any-word2 .ensures) ∙ c .before .if3 .taken))
 
 returns-4 : tie.Need-returns-4
 returns-4 c =
@@ -53,7 +54,7 @@ returns-4 c =
     let s = f .before .before .before .args in
     let t = now (s .line) in
     c .refuse4 .ensures
-    ∙ sym (refused-15 t (s .builder) (lineWords t (s .from)) _ _ _ (fits (a .before)) (sym (a .any-word .ensures) ∙ b .before .if2 .left) (sym (b .any-word2 .ensures) ∙ d .before .if3 .left) (sym (d .any-word3 .ensures) ∙ c .before .if4 .taken))
+    ∙ sym (refused-15 t (s .place .0) (s .builder) (lineWords t (s .from)) _ _ _ (fits (a .before)) (sym (a .any-word .ensures) ∙ b .before .if2 .left) (sym (b .any-word2 .ensures) ∙ d .before .if3 .left) (sym (d .any-word3 .ensures) ∙ c .before .if4 .taken))
 
 returns-5 : tie.Need-returns-5
 returns-5 c =
@@ -65,7 +66,7 @@ returns-5 c =
     let s = f .before .before .before .args in
     let t = now (s .line) in
     c .add-line .ensures
-    ∙ sym (to-add t (s .builder) (lineWords t (s .from)) _ _ _ (fits (a .before)) (sym (a .any-word .ensures) ∙ b .before .if2 .left) (sym (b .any-word2 .ensures) ∙ d .before .if3 .left) (sym (d .any-word3 .ensures) ∙ e .if4 .left))
+    ∙ sym (to-add t (s .place .0) (s .builder) (lineWords t (s .from)) _ _ _ (fits (a .before)) (sym (a .any-word .ensures) ∙ b .before .if2 .left) (sym (b .any-word2 .ensures) ∙ d .before .if3 .left) (sym (d .any-word3 .ensures) ∙ e .if4 .left))
 
 pub read-words-spec : {M : Type 1} → statement M
 read-words-spec =

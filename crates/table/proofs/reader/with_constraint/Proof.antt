@@ -6,7 +6,7 @@ use Rattle.table.proofs.reader.with_constraint.Tie as tie
 
 returns-2 : tie.Need-returns-2
 returns-2 c =
-    let e = c .before .before in
+    let e = c .before in
     rw (lt-leb 64 (e .before .before .args .builder .table .count) (e .if1 .left), c .with-defined .ensures)
 
 pub with-constraint-spec : {M : Type 1} → statement M
