@@ -4,7 +4,6 @@ use mathlib.Core.Path.{_≡_, refl, sym, ap, _∙_}
 use mathlib.Core.Bool.{Bool, true, false, _&&_}
 use mathlib.Core.List.{List, [], _∷_}
 use Prim.Native.Nat.{ℕ}
-use Rattle.text.specs.Bytes.{inClass}
 use Rattle.text.specs.Split.{bytesOf, front, rest, NextWord}
 use Rattle.text.specs.declared.Class.the-variants.{Space}
 use Rattle.text.specs.declared.Span.{Span}
@@ -40,7 +39,7 @@ then-some p f a ws e = rw e
 
 module _ (t : List ℕ) where
   -- ---- the first word, read by next_word and token_at
-  module _ (at : ℕ) (w : Span) (n : NextWord (inClass Space) t at w) where
+  module _ (at : ℕ) (w : Span) (n : NextWord Space t at w) where
     pub token-read : (r : Token) → r ≡ tokenOf (bytesOf t w) → token t (lineWords t at) ≡ r
     token-read r e = ap (λ (p : Span). tokenOf (bytesOf t p)) (sym (n .found)) ∙ sym e
 
@@ -80,7 +79,7 @@ module _ (t : List ℕ) where
     kind-one e = rw e
 
   -- ---- the same, of the words from an offset on
-  module _ (at : ℕ) (w : Span) (n : NextWord (inClass Space) t at w) where
+  module _ (at : ℕ) (w : Span) (n : NextWord Space t at w) where
     pub operand-read : (b : Builder) (k : ℕ) → is Name (token t (lineWords t at)) ≡ true → k ≡ clockAt t b w
         → parsed (record { builder = b; clock = k }) (lineWords t (w .end)) ≡ operand t b (lineWords t at)
     operand-read b k e q = rw (operand-some (lineWords t at) b e, q, n .after, n .found)
@@ -89,7 +88,7 @@ module _ (t : List ℕ) where
         → _≡_ {A = Kinded} (record { kind = k; after = lineWords t (w .end) }) (kindAt t (lineWords t at))
     kind-read-one k e q = rw (kind-one (lineWords t at) e, q, n .after)
 
-    module _ (v : Span) (m : NextWord (inClass Space) t (w .end) v) where
+    module _ (v : Span) (m : NextWord Space t (w .end) v) where
       pub token-second : (r : Token) → r ≡ tokenOf (bytesOf t v) → token t (rest (lineWords t at)) ≡ r
       token-second r e = rw (← n .after) (token-read (w .end) v m r e)
 

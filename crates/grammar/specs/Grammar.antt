@@ -13,7 +13,6 @@ use Rattle.constraint.specs.declared.Kind.the-variants.{Empty, Relates, Defines
 use Rattle.constraint.specs.declared.Parameter.{Parameter}
 use Rattle.constraint.specs.declared.Relation.{Relation}
 use Rattle.constraint.specs.declared.Relation.the-variants.{Coincides, Excludes, SubClock, StrictlyPrecedes, Precedes}
-use Rattle.text.specs.Bytes.{inClass}
 use Rattle.text.specs.Digits.{number}
 use Rattle.text.specs.Split.{bytesOf, wordsAt, front, rest}
 use Rattle.text.specs.declared.Class.the-variants.{Space}
@@ -30,7 +29,7 @@ use Rattle.grammar.specs.declared.Token.the-variants.{End, Other, Name, 
 
 -- the words of a line: parted by one or more spaces
 abbrev pub lineWords : List ℕ → ℕ → List Span
-lineWords t at = wordsAt (inClass Space) t at
+lineWords t at = wordsAt Space t at
 
 -- what the first word is
 abbrev pub token : List ℕ → List Span → Token

@@ -6,7 +6,6 @@ use super::words::token_at;
 use text::Class;
 use text::Span;
 ghost use mathlib.Core.Path.{_≡_};
-ghost use Rattle.text.specs.Bytes.{inClass};
 ghost use Rattle.text.specs.Split.{wordsAt};
 ghost use Rattle.text.specs.declared.Class.the-variants.{Space};
 ghost use Rattle.grammar.specs.Names as n;
@@ -62,7 +61,7 @@ fn with_word(line: &[u8], names: Names, word: Span) -> Names
 
 // The names with those of the words from an offset on.
 pub fn with_words(line: &[u8], names: Names, from: usize) -> Names
-    ensures { λ r. ⌜ r ≡ n.withWords (now (line .entry)) names (wordsAt (inClass Space) (now (line .entry)) from) ⌝ }
+    ensures { λ r. ⌜ r ≡ n.withWords (now (line .entry)) names (wordsAt Space (now (line .entry)) from) ⌝ }
 {
     let mut all = names;
     let mut at = from;

@@ -38,15 +38,15 @@ module _ (t : List ℕ) (p : Span → List Span → Bool) where
   any-cons ws w us e = rw e
 
   pub any-over : (at : ℕ) → length t ≤ at → anyWord p (lineWords t at) ≡ false
-  any-over at h = any-nil _ (words-over t (inClass Space) at h)
+  any-over at h = any-nil _ (words-over t Space at h)
 
-  module _ (at : ℕ) (w : Span) (n : NextWord (inClass Space) t at w) where
+  module _ (at : ℕ) (w : Span) (n : NextWord Space t at w) where
     pub any-last : w .end ≤ w .start → anyWord p (lineWords t at) ≡ false
-    any-last h = any-nil _ (is-last t (inClass Space) at w n h)
+    any-last h = any-nil _ (is-last t Space at w n h)
 
     module _ (h : w .start < w .end) where
       turn : anyWord p (lineWords t at) ≡ (p w (lineWords t (w .end)) || anyWord p (lineWords t (w .end)))
-      turn = any-cons _ w _ (is-word t (inClass Space) at w n h)
+      turn = any-cons _ w _ (is-word t Space at w n h)
 
       pub any-here : p w (lineWords t (w .end)) ≡ true → anyWord p (lineWords t at) ≡ true
       any-here e = turn ∙ rw e

@@ -2,7 +2,6 @@
 use mathlib.Core.Path.{sym, _∙_}
 use borrow.Author.Tests.{not-true, not-false}
 use denote.Ref.{now}
-use Rattle.text.specs.Bytes.{inClass}
 use Rattle.text.specs.declared.Class.the-variants.{Space}
 use Rattle.text.proofs.Runs.{is-last, is-word}
 use Rattle.grammar.specs.Answers.{formRead}
@@ -24,7 +23,7 @@ returns-2 c =
     let s = n .before .before .before .before .before .args in
     let t = now (s .line) in
     form-not t _ (c .no-form2 .ensures)
-    ∙ sym (ended-more t (s .definition) (s .clock) (s .form) (not-false _ (n .before .if1 .left)) _ _ (is-word t (inClass Space) (s .form .at) (w .result) (w .ensures) (c .before .if2 .taken)))
+    ∙ sym (ended-more t (s .definition) (s .clock) (s .form) (not-false _ (n .before .if1 .left)) _ _ (is-word t Space (s .form .at) (w .result) (w .ensures) (c .before .if2 .taken)))
 
 returns-3 : tie.Need-returns-3
 returns-3 c =
@@ -35,7 +34,7 @@ returns-3 c =
     let s = n .before .before .before .before .before .args in
     let t = now (s .line) in
     form-not t _ (c .no-form3 .ensures)
-    ∙ sym (ended-side t (s .definition) (s .clock) (s .form) (not-false _ (n .before .if1 .left)) (is-last t (inClass Space) (s .form .at) (w .result) (w .ensures) (e .if2 .left)) (sym (i .is-side .ensures) ∙ not-true _ (c .before .if3 .taken)))
+    ∙ sym (ended-side t (s .definition) (s .clock) (s .form) (not-false _ (n .before .if1 .left)) (is-last t Space (s .form .at) (w .result) (w .ensures) (e .if2 .left)) (sym (i .is-side .ensures) ∙ not-true _ (c .before .if3 .taken)))
 
 returns-4 : tie.Need-returns-4
 returns-4 c =
@@ -45,7 +44,7 @@ returns-4 c =
     let w = n .next-word in
     let s = n .before .before .before .before .before .args in
     let t = now (s .line) in
-    ended-read t (s .definition) (s .clock) (s .form) (not-false _ (n .before .if1 .left)) (is-last t (inClass Space) (s .form .at) (w .result) (w .ensures) (e .if2 .left)) (sym (i .is-side .ensures) ∙ not-false _ (c .if3 .left))
+    ended-read t (s .definition) (s .clock) (s .form) (not-false _ (n .before .if1 .left)) (is-last t Space (s .form .at) (w .result) (w .ensures) (e .if2 .left)) (sym (i .is-side .ensures) ∙ not-false _ (c .if3 .left))
 
 pub closed-spec : {M : Type 1} → statement M
 closed-spec =

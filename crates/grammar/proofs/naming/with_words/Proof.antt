@@ -4,7 +4,6 @@ use Prim.Native.Nat.{_-_}
 use native.Mathlib.Omega.{arith}
 use denote.Ref.{now}
 use lib.ListN.{length}
-use Rattle.text.specs.Bytes.{inClass}
 use Rattle.text.specs.Split.{wordsAt}
 use Rattle.text.specs.declared.Class.the-variants.{Space}
 use Rattle.text.proofs.Runs.{words-over}
@@ -15,7 +14,7 @@ use Rattle.grammar.proofs.naming.with_words.Statement.{statement}
 use Rattle.grammar.proofs.naming.with_words.Tie as tie
 
 abbrev Inv-loop : tie.InvT-loop
-Inv-loop line from all₀ at₀ all at = withWords line all (wordsAt (inClass Space) line at) ≡ withWords line all₀ (wordsAt (inClass Space) line from)
+Inv-loop line from all₀ at₀ all at = withWords line all (wordsAt Space line at) ≡ withWords line all₀ (wordsAt Space line from)
 
 abbrev μ-loop : tie.MeasureT-loop
 μ-loop line from all₀ at₀ all at = length line - at
@@ -31,7 +30,7 @@ returns : tie.Need-returns Inv-loop μ-loop
 returns c =
     let l = c .before in
     let t = now (l .before .before .args .line) in
-    sym (words-none t (l .loop .all) _ (words-over t (inClass Space) (l .loop .at) (c .loop-test .left))) ∙ l .loop .inv
+    sym (words-none t (l .loop .all) _ (words-over t Space (l .loop .at) (c .loop-test .left))) ∙ l .loop .inv
 
 pub with-words-spec : {M : Type 1} → statement M
 with-words-spec =

@@ -2,7 +2,6 @@
 use mathlib.Core.Path.{sym, _∙_}
 use borrow.Author.Tests.{not-true, not-false}
 use denote.Ref.{now}
-use Rattle.text.specs.Bytes.{inClass}
 use Rattle.text.specs.declared.Class.the-variants.{Space}
 use Rattle.text.proofs.Runs.{is-last, is-word}
 use Rattle.table.proofs.ReaderLaws.{refused-11, blank, to-words}
@@ -22,7 +21,7 @@ returns-2 c =
     let a = n .before .before in
     let s = a .before .before .args in
     let t = now (s .line) in
-    c .read-words .ensures ∙ sym (to-words t (s .place .0) (s .builder) (s .from) (sym (a .all-from .ensures) ∙ not-false _ (n .before .if1 .left)) _ _ (is-word t (inClass Space) (s .from) (n .next-word .result) (n .next-word .ensures) (c .before .if2 .taken)))
+    c .read-words .ensures ∙ sym (to-words t (s .place .0) (s .builder) (s .from) (sym (a .all-from .ensures) ∙ not-false _ (n .before .if1 .left)) _ _ (is-word t Space (s .from) (n .next-word .result) (n .next-word .ensures) (c .before .if2 .taken)))
 
 returns-3 : tie.Need-returns-3
 returns-3 c =
@@ -30,7 +29,7 @@ returns-3 c =
     let a = n .before .before in
     let s = a .before .before .args in
     let t = now (s .line) in
-    sym (blank t (s .place .0) (s .builder) (s .from) (sym (a .all-from .ensures) ∙ not-false _ (n .before .if1 .left)) (is-last t (inClass Space) (s .from) (n .next-word .result) (n .next-word .ensures) (c .if2 .left)))
+    sym (blank t (s .place .0) (s .builder) (s .from) (sym (a .all-from .ensures) ∙ not-false _ (n .before .if1 .left)) (is-last t Space (s .from) (n .next-word .result) (n .next-word .ensures) (c .if2 .left)))
 
 pub read-line-spec : {M : Type 1} → statement M
 read-line-spec =
