@@ -23,11 +23,11 @@ use Rattle.text.specs.Bytes.{inClass, allBytes}
 use Rattle.text.specs.Split.{piecesAt}
 use Rattle.text.specs.declared.Class.the-variants.{Newline, Printable}
 use Rattle.text.specs.declared.Span.{Span}
-use Rattle.grammar.specs.Grammar.{Parsed, noForm, parsed, Formed, lineWords, operand, lineForm}
+use Rattle.grammar.specs.Building.{start, onItsLine, withConstraint}
+use Rattle.grammar.specs.Grammar.{Parsed, noForm, parsed, Formed, lineWords, formIn}
 use Rattle.grammar.specs.Names.{withWords}
-use Rattle.table.specs.Reader.{anyWord, fails, onItsLine, withConstraint, addLine, formStep, withNames, unlessBlank, lineStep, read, tellOf, start, readLines, mostBytes, readTable, Passes, EveryTablePasses}
+use Rattle.table.specs.Reader.{anyWord, longName, badNumber, twice, addLine, formStep, filledStep, blank, lineStep, read, tellOf, readLines, mostBytes, readTable, Passes, EveryTablePasses}
 use Rattle.grammar.specs.declared.Builder.{Builder}
-use Rattle.table.specs.declared.WordCheck.the-variants.{LongName, BadNumber, Twice}
 use Rattle.grammar.specs.declared.Names.{Names}
 use Rattle.grammar.specs.declared.Table.{Table}
 use Rattle.table.proofs.FormClocks.{within-below, within-distinct, Each, Line, line-made}
@@ -47,19 +47,16 @@ record Good (b : Builder) : Type 0 where
 good-start : Good start
 good-start = record { listed = []; records = refl; count = refl; most = omega arith; spans = refl; room = omega arith; fit = refl; defined = bits-zero }
 
-good-names : (t : List ℕ) (b : Builder) (ws : List Span) → Good b → Good (withNames t b ws)
-good-names t b ws g =
-    let w : Grown t (b .table .names) ws (withWords t (b .table .names) ws) = all-words t (b .table .names) (g .spans) (g .room) ws in
-    record {
-      listed = g .listed;
-      records = g .records;
-      count = g .count;
-      most = g .most;
-      spans = w .spans;
-      room = w .room;
-      fit = clocks-more (b .table .names .count) (withWords t (b .table .names) ws .count) (w .more) none 1 (g .listed) (g .fit);
-      defined = g .defined;
-    }
+-- with the names of a line
+module _ (t : List ℕ) (b : Builder) (g : Good b) (ws : List Span) where
+  abbrev names : Names
+  names = withWords t (b .table .names) ws
+
+  grown : Grown t (b .table .names) ws names
+  grown = all-words t (b .table .names) (g .spans) (g .room) ws
+
+  fit-names : firstUnfit (names .count) none 1 (g .listed) ≡ Nowhere
+  fit-names = clocks-more (b .table .names .count) (names .count) (grown .more) none 1 (g .listed) (g .fit)
 
 -- ---- a line
 abbrev AfterStep : Checked Builder → Type 0
@@ -70,52 +67,52 @@ unless-refused : (x : Bool) (l : Limit) (n : ℕ) (s : Checked Builder) → (x �
 unless-refused true l n s f = tt
 unless-refused false l n s f = f refl
 
-one-constraint : (n : ℕ) (b : Builder) (r : Constraint) → Good b → wellFormed (b .table .names .count) r ≡ true → any (bits (b .defined)) (definedOf r) ≡ false → leb 64 (b .table .count) ≡ false → Good (withConstraint b n r)
-one-constraint n b r g w p16 p18 =
-    let h : b .table .count < 64 = leb-false 64 (b .table .count) p18 in
-    let e : b .table .count ≡ length (g .listed) = g .count in
-    let more : List Constraint = g .listed ++ onItsLine n r ∷ [] in
-    let l : length more ≡ length (g .listed) + 1 = length-append (g .listed) (onItsLine n r ∷ []) in
-    rw p18 (record {
-      listed = more;
-      records = rw (g .records, g .count) (slots-more 64 (g .listed) (onItsLine n r) (omega arith));
-      count = omega arith;
-      most = omega arith;
-      spans = g .spans;
-      room = g .room;
-      fit = fits-more (b .table .names .count) none 1 (g .listed) (onItsLine n r) (g .fit) (omega arith) w (rw (← g .defined) p16);
-      defined = defined-bits (b .table .names .count) (b .defined) r (g .room) w ∙ ap (addingAll (definedOf r)) (g .defined) ∙ sym (defined-more none (g .listed) (onItsLine n r));
-    })
-
-line-added : (n : ℕ) (b : Builder) (r : Constraint) → Good b → (b .table .names .over ≡ false → wellFormed (b .table .names .count) r ≡ true) → AfterStep (addLine n b r)
-unfolding addLine
-line-added n b r g w =
-    unless-refused (any (bits (b .defined)) (definedOf r)) DefinedTwice n _ (λ p16.
-    unless-refused (b .table .names .over) TableClocks n _ (λ p17.
-    unless-refused (leb 64 (b .table .count)) TableConstraints n _ (λ p18. one-constraint n b r g (w p17) p16 p18)))
-
 module _ (t : List ℕ) (n : ℕ) (b : Builder) (g : Good b) where
-  form-step : (ws : List Span) (p : Parsed Formed) → Each (λ f us. Line t (withNames t b ws) ws f) p → AfterStep (formStep t n b ws p)
+  one-constraint : (ws : List Span) (r : Constraint) → wellFormed (names t b g ws .count) r ≡ true → any (bits (b .defined)) (definedOf r) ≡ false → leb 64 (b .table .count) ≡ false → Good (withConstraint b (names t b g ws) n r)
+  one-constraint ws r w p16 p18 =
+      let h : b .table .count < 64 = leb-false 64 (b .table .count) p18 in
+      let e : b .table .count ≡ length (g .listed) = g .count in
+      let more : List Constraint = g .listed ++ onItsLine n r ∷ [] in
+      let l : length more ≡ length (g .listed) + 1 = length-append (g .listed) (onItsLine n r ∷ []) in
+      rw p18 (record {
+        listed = more;
+        records = rw (g .records, g .count) (slots-more 64 (g .listed) (onItsLine n r) (omega arith));
+        count = omega arith;
+        most = omega arith;
+        spans = grown t b g ws .spans;
+        room = grown t b g ws .room;
+        fit = fits-more (names t b g ws .count) none 1 (g .listed) (onItsLine n r) (fit-names t b g ws) (omega arith) w (rw (← g .defined) p16);
+        defined = defined-bits (names t b g ws .count) (b .defined) r (grown t b g ws .room) w ∙ ap (addingAll (definedOf r)) (g .defined) ∙ sym (defined-more none (g .listed) (onItsLine n r));
+      })
+
+  line-added : (ws : List Span) (ms : Names) (r : Constraint) → ms ≡ names t b g ws → (names t b g ws .over ≡ false → wellFormed (names t b g ws .count) r ≡ true) → AfterStep (addLine n b ms r)
+  unfolding addLine
+  line-added ws ms r e w =
+      rw e
+      (unless-refused (any (bits (b .defined)) (definedOf r)) DefinedTwice n _ (λ p16.
+      unless-refused (names t b g ws .over) TableClocks n _ (λ p17.
+      unless-refused (leb 64 (b .table .count)) TableConstraints n _ (λ p18. one-constraint ws r (w p17) p16 p18))))
+
+  form-step : (ws : List Span) (p : Parsed (Formed Names)) → Each (λ f us. Line t (names t b g ws) ws f) p → AfterStep (formStep t n b ws p)
   unfolding formStep
   form-step ws noForm h = tt
   form-step ws (parsed f us) h =
-      unless-refused (anyWord (fails LongName t) ws) NameLength n _ (λ p13.
-      unless-refused (anyWord (fails BadNumber t) ws) AwaitNumber n _ (λ p14.
-      unless-refused (anyWord (fails Twice t) ws) ClockTwice n _ (λ p15.
-      rw (h .builder) (line-added n (withNames t b ws) (f .constraint) (good-names t b ws g) (λ p17.
-      let ms : Names = withWords t (b .table .names) ws in
-      let known : AllKnown t ms ws = all-words t (b .table .names) (g .spans) (g .room) ws .known p17 in
+      unless-refused (anyWord (longName t) ws) NameLength n _ (λ p13.
+      unless-refused (anyWord (badNumber t) ws) AwaitNumber n _ (λ p14.
+      unless-refused (anyWord (twice t) ws) ClockTwice n _ (λ p15.
+      line-added ws (f .left) (f .constraint) (h .left) (λ p17.
+      let ms : Names = names t b g ws in
+      let known : AllKnown t ms ws = grown t b g ws .known p17 in
       let below = within-below (ms .count) (clocksOf (f .constraint)) (nameClocks t ms ws) (h .named) (names-below t ms ws known) in
       let differ = within-distinct (clocksOf (f .constraint)) (nameClocks t ms ws) (h .named) (names-distinct t ms ws known p15) in
-      rw (below, differ, h .fits p14))))))
-
-  words-step : (ws : List Span) → AfterStep (unlessBlank t n b ws)
-  unfolding unlessBlank
-  words-step [] = g
-  words-step (w ∷ ws) = form-step (w ∷ ws) (lineForm t (operand t) (withNames t b (w ∷ ws)) (w ∷ ws)) (line-made t (withNames t b (w ∷ ws)) (w ∷ ws))
+      rw (below, differ, h .fits p14)))))
 
   line-step : (from : ℕ) → AfterStep (lineStep t n b from)
-  line-step from = unless-refused (not (allBytes (inClass Printable) (drop from t))) LineByte n _ (λ p11. words-step (lineWords t from))
+  line-step from = go (blank t from)
+    where
+      go : (x : Bool) → AfterStep (cond x (passed b) (filledStep t n b from))
+      go true = g
+      go false = unless-refused (not (allBytes (inClass Printable) (drop from t))) LineByte n _ (λ p11. form-step (lineWords t from) (formIn t (names t b g (lineWords t from)) (lineWords t from)) (line-made t (names t b g (lineWords t from)) (lineWords t from)))
 
 -- ---- the table
 good-passes : (b : Builder) → Good b → Passes (b .table)

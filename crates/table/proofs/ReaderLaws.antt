@@ -6,14 +6,9 @@ use mathlib.Core.List.{List, [], _∷_}
 use Prim.Native.Nat.{ℕ, _+_, _≤_, _<_}
 use native.Mathlib.Decide.{decLt}
 use native.Mathlib.Omega.{arith}
-use borrow.Author.Tests.{le-leb, lt-leb, le-ltb, lt-ltb}
+use borrow.Author.Tests.{eqb-true, le-leb, lt-leb, le-ltb, lt-ltb}
 use lib.Dec.{leb}
 use lib.ListN.{length, take, drop}
-use Rattle.text.specs.Bytes.{inClass, passes, allBytes}
-use Rattle.text.specs.Split.{span, piecesAt, runEnd, NextWord}
-use Rattle.text.specs.declared.Class.the-variants.{Newline, Space, Printable}
-use Rattle.text.specs.declared.Span.{Span}
-use Rattle.text.proofs.Runs.{is-last, is-word, words-over, piece-more, piece-last}
 use Rattle.limit.specs.Checked.{Checked, passed, stopped, andThen}
 use Rattle.limit.specs.declared.Limit.{Limit}
 use Rattle.limit.specs.declared.Limit.the-variants.{TableLength, LineByte, LineForm, NameLength, AwaitNumber, ClockTwice, DefinedTwice, TableClocks, TableConstraints}
@@ -21,95 +16,127 @@ use Rattle.limit.proofs.CheckLaws.{refuses, allows, stays-stopped, goes-to}
 use Rattle.constraint.specs.Meaning.{definedOf}
 use Rattle.constraint.specs.Ticks.{any, bits}
 use Rattle.constraint.specs.declared.Constraint.{Constraint}
+use Rattle.text.specs.Bytes.{inClass, passes, allBytes}
+use Rattle.text.specs.Split.{span, piecesAt, runEnd}
+use Rattle.text.specs.declared.Class.the-variants.{Newline, Printable}
+use Rattle.text.specs.declared.Span.{Span}
+use Rattle.text.proofs.Runs.{piece-more, piece-last}
+use Rattle.grammar.specs.Building.{start, withConstraint, finish}
 use Rattle.grammar.specs.Grammar.{Parsed, noForm, parsed, Formed, lineWords}
-use Rattle.table.specs.Reader.{anyWord, fails, withConstraint, addLine, formStep, wordsStep, unlessBlank, lineStep, tellOf, start, readLines, mostBytes, readTable}
+use Rattle.grammar.specs.Tokens.{tag, is}
 use Rattle.grammar.specs.declared.Builder.{Builder}
+use Rattle.grammar.specs.declared.Names.{Names}
 use Rattle.grammar.specs.declared.Table.{Table}
-use Rattle.table.specs.declared.WordCheck.the-variants.{LongName, BadNumber, Twice}
+use Rattle.grammar.specs.declared.Token.{Token}
+use Rattle.grammar.specs.declared.Token.the-variants.{Name, Await}
+use Rattle.table.specs.Answers.{flawsOf, wordFlaws, either}
+use Rattle.table.specs.Reader.{anyWord, longName, badNumber, twice, addLine, formStep, wordsStep, filledStep, blank, lineStep, tellOf, readLines, mostBytes, readTable}
+use Rattle.table.specs.declared.Flaws.{Flaws}
 
 -- ---- a test of some word
-module _ (t : List ℕ) (p : Span → List Span → Bool) where
-  any-nil : (ws : List Span) → ws ≡ [] → anyWord p ws ≡ false
+module _ (p : Span → List Span → Bool) (ws : List Span) where
+  pub any-done : ws ≡ [] → anyWord p ws ≡ false
   unfolding anyWord
-  any-nil ws e = rw e
+  any-done e = rw e
 
-  any-cons : (ws : List Span) (w : Span) (us : List Span) → ws ≡ w ∷ us → anyWord p ws ≡ (p w us || anyWord p us)
-  unfolding anyWord
-  any-cons ws w us e = rw e
+  module _ (w : Span) (us : List Span) (e : ws ≡ w ∷ us) where
+    any-turn : anyWord p ws ≡ (p w us || anyWord p us)
+    unfolding anyWord
+    any-turn = rw e
 
-  pub any-over : (at : ℕ) → length t ≤ at → anyWord p (lineWords t at) ≡ false
-  any-over at h = any-nil _ (words-over t Space at h)
+    pub any-stop : p w us ≡ true → anyWord p ws ≡ true
+    any-stop q = any-turn ∙ rw q
 
-  module _ (at : ℕ) (w : Span) (n : NextWord Space t at w) where
-    pub any-last : w .end ≤ w .start → anyWord p (lineWords t at) ≡ false
-    any-last h = any-nil _ (is-last t Space at w n h)
+    pub any-on : p w us ≡ false → anyWord p ws ≡ anyWord p us
+    any-on q = any-turn ∙ rw q
 
-    module _ (h : w .start < w .end) where
-      turn : anyWord p (lineWords t at) ≡ (p w (lineWords t (w .end)) || anyWord p (lineWords t (w .end)))
-      turn = any-cons _ w _ (is-word t Space at w n h)
+-- ---- the three tests in one walk
+or-none : (x : Bool) → (x || false) ≡ x
+or-none true = refl
+or-none false = refl
 
-      pub any-here : p w (lineWords t (w .end)) ≡ true → anyWord p (lineWords t at) ≡ true
-      any-here e = turn ∙ rw e
+or-assoc : (x y z : Bool) → (x || (y || z)) ≡ ((x || y) || z)
+or-assoc true y z = refl
+or-assoc false y z = refl
 
-      pub any-on : p w (lineWords t (w .end)) ≡ false → anyWord p (lineWords t at) ≡ anyWord p (lineWords t (w .end))
-      any-on e = turn ∙ rw e
+either-assoc : (a b c : Flaws) → either a (either b c) ≡ either (either a b) c
+either-assoc a b c = λ i. record {
+  long = or-assoc (a .long) (b .long) (c .long) i;
+  bad = or-assoc (a .bad) (b .bad) (c .bad) i;
+  twice = or-assoc (a .twice) (b .twice) (c .twice) i;
+}
+
+module _ (t : List ℕ) (f : Flaws) (ws : List Span) where
+  pub flaws-done : ws ≡ [] → either f (flawsOf t ws) ≡ f
+  flaws-done e = rw (any-done (longName t) ws e, any-done (badNumber t) ws e, any-done (twice t) ws e, or-none (f .long), or-none (f .bad), or-none (f .twice))
+
+  module _ (w : Span) (us : List Span) (e : ws ≡ w ∷ us) where
+    flaws-turn : flawsOf t ws ≡ either (wordFlaws t w us) (flawsOf t us)
+    flaws-turn = rw (any-turn (longName t) ws w us e, any-turn (badNumber t) ws w us e, any-turn (twice t) ws w us e)
+
+    pub flaws-on : either f (flawsOf t ws) ≡ either (either f (wordFlaws t w us)) (flawsOf t us)
+    flaws-on = ap (either f) flaws-turn ∙ either-assoc f (wordFlaws t w us) (flawsOf t us)
+
+-- a name is no await
+pub name-no-await : (k : Token) → is Name k ≡ true → is Await k ≡ false
+name-no-await k e = rw (← eqb-true 2 (tag k) e)
 
 -- ---- the checks of a line
-module _ (n : ℕ) (b : Builder) (r : Constraint) where
-  pub refused-16 : any (bits (b .defined)) (definedOf r) ≡ true → addLine n b r ≡ stopped DefinedTwice n
+module _ (n : ℕ) (b : Builder) (ns : Names) (r : Constraint) where
+  pub refused-16 : any (bits (b .defined)) (definedOf r) ≡ true → addLine n b ns r ≡ stopped DefinedTwice n
   unfolding addLine
   refused-16 e = refuses _ _ _ _ e
 
   module _ (p16 : any (bits (b .defined)) (definedOf r) ≡ false) where
-    pub refused-17 : b .table .names .over ≡ true → addLine n b r ≡ stopped TableClocks n
+    pub refused-17 : ns .over ≡ true → addLine n b ns r ≡ stopped TableClocks n
     unfolding addLine
     refused-17 e = allows _ _ _ _ p16 ∙ refuses _ _ _ _ e
 
-    module _ (p17 : b .table .names .over ≡ false) where
-      pub refused-18 : leb 64 (b .table .count) ≡ true → addLine n b r ≡ stopped TableConstraints n
+    module _ (p17 : ns .over ≡ false) where
+      pub refused-18 : leb 64 (b .table .count) ≡ true → addLine n b ns r ≡ stopped TableConstraints n
       unfolding addLine
       refused-18 e = allows _ _ _ _ p16 ∙ (allows _ _ _ _ p17 ∙ refuses _ _ _ _ e)
 
-      pub added : leb 64 (b .table .count) ≡ false → addLine n b r ≡ passed (withConstraint b n r)
+      pub added : leb 64 (b .table .count) ≡ false → addLine n b ns r ≡ passed (withConstraint b ns n r)
       unfolding addLine
       added e = allows _ _ _ _ p16 ∙ (allows _ _ _ _ p17 ∙ allows _ _ _ _ e)
 
-module _ (t : List ℕ) (n : ℕ) (b : Builder) (ws : List Span) (p : Parsed Formed) where
+module _ (t : List ℕ) (n : ℕ) (b : Builder) (ws : List Span) (p : Parsed (Formed Names)) where
   pub refused-12 : p ≡ noForm → formStep t n b ws p ≡ stopped LineForm n
   unfolding formStep
   refused-12 e = rw e
 
-  module _ (f : Formed) (us : List Span) (e : p ≡ parsed f us) where
-    pub refused-13 : anyWord (fails LongName t) ws ≡ true → formStep t n b ws p ≡ stopped NameLength n
+  module _ (f : Formed Names) (us : List Span) (e : p ≡ parsed f us) where
+    pub refused-13 : anyWord (longName t) ws ≡ true → formStep t n b ws p ≡ stopped NameLength n
     unfolding formStep
     refused-13 x = rw e (refuses _ _ _ _ x)
 
-    module _ (p13 : anyWord (fails LongName t) ws ≡ false) where
-      pub refused-14 : anyWord (fails BadNumber t) ws ≡ true → formStep t n b ws p ≡ stopped AwaitNumber n
+    module _ (p13 : anyWord (longName t) ws ≡ false) where
+      pub refused-14 : anyWord (badNumber t) ws ≡ true → formStep t n b ws p ≡ stopped AwaitNumber n
       unfolding formStep
       refused-14 x = rw e (allows _ _ _ _ p13 ∙ refuses _ _ _ _ x)
 
-      module _ (p14 : anyWord (fails BadNumber t) ws ≡ false) where
-        pub refused-15 : anyWord (fails Twice t) ws ≡ true → formStep t n b ws p ≡ stopped ClockTwice n
+      module _ (p14 : anyWord (badNumber t) ws ≡ false) where
+        pub refused-15 : anyWord (twice t) ws ≡ true → formStep t n b ws p ≡ stopped ClockTwice n
         unfolding formStep
         refused-15 x = rw e (allows _ _ _ _ p13 ∙ (allows _ _ _ _ p14 ∙ refuses _ _ _ _ x))
 
-        pub to-add : anyWord (fails Twice t) ws ≡ false → formStep t n b ws p ≡ addLine n (f .builder) (f .constraint)
+        pub to-add : anyWord (twice t) ws ≡ false → formStep t n b ws p ≡ addLine n b (f .left) (f .constraint)
         unfolding formStep
         to-add x = rw e (allows _ _ _ _ p13 ∙ (allows _ _ _ _ p14 ∙ allows _ _ _ _ x))
 
 module _ (t : List ℕ) (n : ℕ) (b : Builder) (from : ℕ) where
-  pub refused-11 : allBytes (inClass Printable) (drop from t) ≡ false → lineStep t n b from ≡ stopped LineByte n
+  pub refused-11 : allBytes (inClass Printable) (drop from t) ≡ false → filledStep t n b from ≡ stopped LineByte n
   refused-11 e = refuses _ _ _ _ (ap not e)
 
-  module _ (p11 : allBytes (inClass Printable) (drop from t) ≡ true) where
-    pub blank : lineWords t from ≡ [] → lineStep t n b from ≡ passed b
-    unfolding unlessBlank
-    blank e = allows _ _ _ _ (ap not p11) ∙ rw e
+  pub to-words : allBytes (inClass Printable) (drop from t) ≡ true → filledStep t n b from ≡ wordsStep t n b (lineWords t from)
+  to-words e = allows _ _ _ _ (ap not e)
 
-    pub to-words : (w : Span) (ws : List Span) → lineWords t from ≡ w ∷ ws → lineStep t n b from ≡ wordsStep t n b (lineWords t from)
-    unfolding unlessBlank
-    to-words w ws e = allows _ _ _ _ (ap not p11) ∙ rw e
+  pub line-blank : blank t from ≡ true → lineStep t n b from ≡ passed b
+  line-blank e = rw e
+
+  pub line-filled : blank t from ≡ false → lineStep t n b from ≡ filledStep t n b from
+  line-filled e = rw e
 
 -- ---- the lines of a table
 -- those from an offset on; past the text's end there is none
@@ -128,7 +155,7 @@ module _ (t : List ℕ) where
       go (yes k) = rw (le-leb (e + 1) (length t) (omega arith)) (piece-more (inClass Newline) t at e q k)
       go (no k) = rw (lt-leb (e + 1) (length t) (omega arith)) (piece-last (inClass Newline) t at e q (omega arith))
 
-  pub lines-done : (at n : ℕ) (b : Builder) → length t < at → LinesFrom at n b ≡ passed (b .table)
+  pub lines-done : (at n : ℕ) (b : Builder) → length t < at → LinesFrom at n b ≡ passed (finish b)
   unfolding linesFrom readLines
   lines-done at n b h = rw (lt-leb at (length t) h)
 

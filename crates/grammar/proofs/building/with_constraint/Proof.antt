@@ -1,8 +1,8 @@
 -- `with_constraint` meets its contract. Assumes nothing.
 use borrow.Author.Needs.{needs}
 use borrow.Author.Tests.{le-leb, lt-leb}
-use Rattle.table.proofs.reader.with_constraint.Statement.{statement}
-use Rattle.table.proofs.reader.with_constraint.Tie as tie
+use Rattle.grammar.proofs.building.with_constraint.Statement.{statement}
+use Rattle.grammar.proofs.building.with_constraint.Tie as tie
 
 returns-2 : tie.Need-returns-2
 returns-2 c =
