@@ -9,7 +9,7 @@ use lib.Dec.{leb, ltb}
 use lib.ListN.{length}
 use Rattle.limit.specs.declared.Limit.the-variants.{RecordingLength, RecordingByte, HeaderCommand, VariableShape, DeclaredTwice, VariableCount, ClockUndeclared, HeaderCutOff}
 use Rattle.text.specs.Ascii.{ascii}
-use Rattle.text.specs.Bytes.{inClass, passes, sameBytes}
+use Rattle.text.specs.Bytes.{passes, sameBytes}
 use Rattle.text.specs.Split.{bytesOf, wordsAt, runEnd, NextWord}
 use Rattle.text.specs.declared.Class.the-variants.{Parting, Recorded}
 use Rattle.text.specs.declared.Span.{Span}
@@ -24,7 +24,7 @@ use Rattle.recording.specs.declared.Words.{Words}
 
 -- words are parted by bytes 9, 10, 13, 32
 abbrev pub words : List ℕ → ℕ → List Span
-words r at = wordsAt (inClass Parting) r at
+words r at = wordsAt Parting r at
 
 abbrev pub says : List ℕ → String → Bool
 says w s = sameBytes w (ascii s)
@@ -122,11 +122,11 @@ pub record Resumes (r : List ℕ) (from : ℕ) (at : ℕ) : Type 0 where
 
 -- five words in a row, from an offset on
 pub record Five (r : List ℕ) (from : ℕ) (ws : Words) : Type 0 where
-  pub kind : NextWord (inClass Parting) r from (ws .kind)
-  pub width : NextWord (inClass Parting) r (ws .kind .end) (ws .width)
-  pub id : NextWord (inClass Parting) r (ws .width .end) (ws .id)
-  pub name : NextWord (inClass Parting) r (ws .id .end) (ws .name)
-  pub last : NextWord (inClass Parting) r (ws .name .end) (ws .last)
+  pub kind : NextWord Parting r from (ws .kind)
+  pub width : NextWord Parting r (ws .kind .end) (ws .width)
+  pub id : NextWord Parting r (ws .width .end) (ws .id)
+  pub name : NextWord Parting r (ws .id .end) (ws .name)
+  pub last : NextWord Parting r (ws .name .end) (ws .last)
 
 abbrev pub declaredAs : Declared → Checked (List Variable)
 declaredAs d = checked (d .outcome) (declared (d .variables))

@@ -8,7 +8,6 @@ use borrow.Author.Tests.{not-true, not-false}
 use denote.Ref.{now}
 use lib.ListN.{length}
 use Rattle.constraint.specs.Lists.{slots}
-use Rattle.text.specs.Bytes.{inClass}
 use Rattle.text.specs.Split.{bytesOf}
 use Rattle.text.specs.declared.Class.the-variants.{Parting}
 use Rattle.text.proofs.Runs.{is-word, is-last, words-over}
@@ -52,7 +51,7 @@ returns : tie.Need-returns Inv-loop μ-loop
 returns c =
     let w = c .before .before .before .before .next-word in
     let l = c .before .before .before .before .before .before in
-    let none = is-last _ (inClass Parting) _ (w .result) (w .ensures) (c .before .before .if1 .taken) in
+    let none = is-last _ Parting _ (w .result) (w .ensures) (c .before .before .if1 .taken) in
     c .report .ensures ∙ ap (ran _) (ap endOf (c .before .close .ensures) ∙ sym (run-ends _ _ _ _ _ none) ∙ from-start l)
 
 -- the word at hand opens a mark
@@ -80,7 +79,7 @@ returns-2 c =
     let m = g .before in
     let l = m .before .before .before .before .before .before .before .before .before in
     let w = m .before .before .before .before .before .before .before .next-word in
-    let some = is-word _ (inClass Parting) _ (w .result) (w .ensures) (m .before .before .before .before .before .if1 .left) in
+    let some = is-word _ Parting _ (w .result) (w .ensures) (m .before .before .before .before .before .if1 .left) in
     c .report2 .ensures ∙ ap (ran _) (sym (mark-stop _ _ _ _ _ _ (w .result) some (opens (m .before)) _ (marks m) (sym (g .goes-on .ensures) ∙ not-true (g .goes-on .result) (c .before .if3 .taken))) ∙ from-start l)
 
 loop-less : tie.Need-loop-less Inv-loop μ-loop
@@ -98,7 +97,7 @@ loop-again c =
     let n = m .before .before .before .before .before .before .before in
     let w = n .next-word in
     let forward = w .ensures .forward (n .before .loop-test .taken) in
-    let some = is-word _ (inClass Parting) _ (w .result) (w .ensures) (m .before .before .before .before .before .if1 .left) in
+    let some = is-word _ Parting _ (w .result) (w .ensures) (m .before .before .before .before .before .if1 .left) in
     let kept = kept-mark (slots (s .count) (s .records)) (l .loop .progress) (w .result .start) (bytesOf (now (s .recording)) (w .result)) (l .loop .inv .0 .ready) in (
       rw (marks m) (record { ready = kept .ready; few = omega (arith, kept .few, l .loop .inv .0 .few, forward) }),
       rw (marks m) (omega (arith, kept .few, l .loop .inv .0 .few, n .before .loop-test .taken)),
@@ -127,7 +126,7 @@ returns-3 c =
     let k = t .before .before .before in
     let l = k .before .before .before .before .before .before .before .before .before .before .before .before .before .before .before .before in
     let w = k .before .before .before .before .before .before .before .before .before .before .before .before .before .before .next-word in
-    let some = is-word _ (inClass Parting) _ (w .result) (w .ensures) (k .before .before .before .before .before .before .before .before .before .before .before .before .if1 .left) in
+    let some = is-word _ Parting _ (w .result) (w .ensures) (k .before .before .before .before .before .before .before .before .before .before .before .before .if1 .left) in
     c .report3 .ensures ∙ ap (ran _) (ap endOf (t .turned .ensures) ∙ sym (change-stop _ _ _ _ _ _ (w .result) some (opens-not k) _ (changes k) _ (t .before .enum-told .given .1)) ∙ from-start l)
 
 loop-less-2 : tie.Need-loop-less-2 Inv-loop μ-loop
@@ -142,7 +141,7 @@ loop-again-2 c =
     let n = k .before .before .before .before .before .before .before .before .before .before .before .before .before .before in
     let w = n .next-word in
     let forward = w .ensures .forward (n .before .loop-test .taken) in
-    let some = is-word _ (inClass Parting) _ (w .result) (w .ensures) (k .before .before .before .before .before .before .before .before .before .before .before .before .if1 .left) in (
+    let some = is-word _ Parting _ (w .result) (w .ensures) (k .before .before .before .before .before .before .before .before .before .before .before .before .if1 .left) in (
       record { ready = l .loop .inv .0 .ready; few = omega (arith, l .loop .inv .0 .few, forward) },
       l .loop .inv .1,
       sym (change-on _ _ _ _ _ _ (w .result) some (opens-not k) _ (changes k) (c .before .enum-told2 .given .1)) ∙ l .loop .inv .2,
@@ -157,7 +156,7 @@ close-requires-2 c κs =
 returns-4 : tie.Need-returns-4 Inv-loop μ-loop
 returns-4 c =
     let e = c .before .before in
-    c .report4 .ensures ∙ ap (ran _) (ap endOf (c .before .close2 .ensures) ∙ sym (run-ends _ _ _ _ _ (words-over _ (inClass Parting) _ (e .loop-test .left))) ∙ from-start (e .before))
+    c .report4 .ensures ∙ ap (ran _) (ap endOf (c .before .close2 .ensures) ∙ sym (run-ends _ _ _ _ _ (words-over _ Parting _ (e .loop-test .left))) ∙ from-start (e .before))
 
 pub judge-body-spec : {M : Type 1} → statement M
 judge-body-spec =
