@@ -4,20 +4,20 @@ use mathlib.Core.Path.{_≡_, refl, sym, ap, _∙_}
 use mathlib.Core.Bool.{Bool, true, false, _&&_}
 use mathlib.Core.List.{List, [], _∷_}
 use Prim.Native.Nat.{ℕ}
-use Rattle.text.specs.Bytes.{inClass}
-use Rattle.text.specs.Split.{bytesOf, front, rest, NextWord}
-use Rattle.text.specs.declared.Class.the-variants.{Space}
+use Rattle.text.specs.Split.{bytesOf, front, rest}
 use Rattle.text.specs.declared.Span.{Span}
-use Rattle.grammar.specs.Grammar.{Parsed, noForm, parsed, andThen, onlyIf, Placed, Formed, Kinded, Operands, lineWords, token, clockAt, operand, kindAt, strictKind, plain, isKind, sides, second, pair, awaitNumber, awaitSide, expression, isSide, defining, atEnd, closed, lineForm, operandRead, formRead}
 use Rattle.constraint.specs.declared.Definition.the-variants.{Await as AwaitKind}
 use Rattle.constraint.specs.declared.Kind.{Kind}
 use Rattle.constraint.specs.declared.Kind.the-variants.{Defines}
+use Rattle.grammar.specs.Answers.{FirstWord, operandRead, formRead}
+use Rattle.grammar.specs.Grammar.{Parsed, noForm, parsed, andThen, onlyIf, Placed, Formed, Kinded, Operands, lineWords, token, clockAt, operand, kindAt, strictKind, plain, isKind, sides, second, pair, awaitNumber, awaitSide, expression, isSide, defining, atEnd, closed, lineForm}
 use Rattle.grammar.specs.Tokens.{is, tokenOf}
-use Rattle.grammar.specs.declared.Builder.{Builder}
 use Rattle.grammar.specs.declared.FormRead.{FormRead}
+use Rattle.grammar.specs.declared.Names.{Names}
 use Rattle.grammar.specs.declared.OperandRead.{OperandRead}
 use Rattle.grammar.specs.declared.Token.{Token}
 use Rattle.grammar.specs.declared.Token.the-variants.{Name, Digits, ClockDef, Await, Strictly}
+use Rattle.grammar.specs.declared.WordRead.{WordRead}
 
 only : {A : Type 0} (t : Bool) (p : Parsed A) → t ≡ true → onlyIf t p ≡ p
 unfolding onlyIf
@@ -38,156 +38,157 @@ unfolding andThen
 then-some p f a ws e = rw e
 
 module _ (t : List ℕ) where
-  -- ---- the first word, read by next_word and token_at
-  module _ (at : ℕ) (w : Span) (n : NextWord (inClass Space) t at w) where
-    pub token-read : (r : Token) → r ≡ tokenOf (bytesOf t w) → token t (lineWords t at) ≡ r
-    token-read r e = ap (λ (p : Span). tokenOf (bytesOf t p)) (sym (n .found)) ∙ sym e
+  -- ---- the first word from an offset on, and the words after it
+  module _ (at : ℕ) (w : WordRead) (f : FirstWord t at w) where
+    pub word-told : w .token ≡ tokenOf (bytesOf t (w .span))
+    word-told = sym (f .token) ∙ ap (λ (p : Span). tokenOf (bytesOf t p)) (sym (f .next .found))
 
-    -- the words after it
-    pub after-it : (P : List Span → Type 0) → P (lineWords t (w .end)) → P (rest (lineWords t at))
-    after-it P h = rw (n .after) at h
+    pub word-token : (k : Token) (x : Bool) → is k (w .token) ≡ x → is k (token t (lineWords t at)) ≡ x
+    word-token k x e = ap (is k) (f .token) ∙ e
+
+    module _ (v : WordRead) (g : FirstWord t (w .span .end) v) where
+      second-is : token t (rest (lineWords t at)) ≡ v .token
+      second-is = ap (token t) (sym (f .next .after)) ∙ g .token
+
+      pub second-token : (k : Token) (x : Bool) → is k (v .token) ≡ x → is k (token t (rest (lineWords t at))) ≡ x
+      second-token k x e = ap (is k) second-is ∙ e
+
+      pub after-second : lineWords t (v .span .end) ≡ rest (rest (lineWords t at))
+      after-second = g .next .after ∙ ap rest (f .next .after)
 
   -- ---- what answers stand for
-  pub operand-not : (r : OperandRead) → r .fits ≡ false → operandRead t r ≡ noForm
-  operand-not r e = not-only (r .fits) _ e
+  module _ {S : Type 0} (s : S) where
+    pub operand-not : (r : OperandRead) → r .fits ≡ false → operandRead t s r ≡ noForm
+    operand-not r e = not-only (r .fits) _ e
 
-  pub operand-is : (r : OperandRead) → r .fits ≡ true → operandRead t r ≡ parsed (record { builder = r .builder; clock = r .clock }) (lineWords t (r .at))
-  operand-is r e = only (r .fits) _ e
+    pub operand-is : (r : OperandRead) → r .fits ≡ true → operandRead t s r ≡ parsed (record { left = s; clock = r .clock }) (lineWords t (r .at))
+    operand-is r e = only (r .fits) _ e
 
-  pub form-not : (r : FormRead) → r .fits ≡ false → formRead t r ≡ noForm
-  form-not r e = not-only (r .fits) _ e
+    pub form-not : (r : FormRead) → r .fits ≡ false → formRead t s r ≡ noForm
+    form-not r e = not-only (r .fits) _ e
 
-  pub form-is : (r : FormRead) → r .fits ≡ true → formRead t r ≡ parsed (record { builder = r .builder; constraint = r .constraint }) (lineWords t (r .at))
-  form-is r e = only (r .fits) _ e
+    pub form-is : (r : FormRead) → r .fits ≡ true → formRead t s r ≡ parsed (record { left = s; constraint = r .constraint }) (lineWords t (r .at))
+    form-is r e = only (r .fits) _ e
 
   -- ---- operands and kinds
   module _ (ws : List Span) where
-    pub operand-none : (b : Builder) → is Name (token t ws) ≡ false → operand t b ws ≡ noForm
+    pub operand-none : (ns : Names) → is Name (token t ws) ≡ false → operand t ns ws ≡ noForm
     unfolding operand
-    operand-none b e = not-only _ _ e
+    operand-none ns e = not-only _ _ e
 
-    pub operand-some : (b : Builder) → is Name (token t ws) ≡ true → operand t b ws ≡ parsed (record { builder = b; clock = clockAt t b (front t ws) }) (rest ws)
+    pub operand-some : (ns : Names) → is Name (token t ws) ≡ true → operand t ns ws ≡ parsed (record { left = ns; clock = clockAt t ns (front t ws) }) (rest ws)
     unfolding operand
-    operand-some b e = only _ _ e
+    operand-some ns e = only _ _ e
 
-    pub kind-two : is Strictly (token t ws) ≡ true → kindAt t ws ≡ record { kind = strictKind (plain (token t (rest ws))); after = rest (rest ws) }
+    kind-two : is Strictly (token t ws) ≡ true → kindAt t ws ≡ record { kind = strictKind (plain (token t (rest ws))); after = rest (rest ws) }
     unfolding kindAt
     kind-two e = rw e
 
-    pub kind-one : is Strictly (token t ws) ≡ false → kindAt t ws ≡ record { kind = plain (token t ws); after = rest ws }
+    kind-one : is Strictly (token t ws) ≡ false → kindAt t ws ≡ record { kind = plain (token t ws); after = rest ws }
     unfolding kindAt
     kind-one e = rw e
 
   -- ---- the same, of the words from an offset on
-  module _ (at : ℕ) (w : Span) (n : NextWord (inClass Space) t at w) where
-    pub operand-read : (b : Builder) (k : ℕ) → is Name (token t (lineWords t at)) ≡ true → k ≡ clockAt t b w
-        → parsed (record { builder = b; clock = k }) (lineWords t (w .end)) ≡ operand t b (lineWords t at)
-    operand-read b k e q = rw (operand-some (lineWords t at) b e, q, n .after, n .found)
+  module _ (at : ℕ) (w : WordRead) (f : FirstWord t at w) where
+    pub operand-read : (ns : Names) (k : ℕ) → is Name (w .token) ≡ true → k ≡ clockAt t ns (w .span)
+        → parsed (record { left = ns; clock = k }) (lineWords t (w .span .end)) ≡ operand t ns (lineWords t at)
+    operand-read ns k e q = rw (operand-some (lineWords t at) ns (word-token at w f Name true e), q, f .next .after, f .next .found)
 
-    pub kind-read-one : (k : Kind) → is Strictly (token t (lineWords t at)) ≡ false → k ≡ plain (token t (lineWords t at))
-        → _≡_ {A = Kinded} (record { kind = k; after = lineWords t (w .end) }) (kindAt t (lineWords t at))
-    kind-read-one k e q = rw (kind-one (lineWords t at) e, q, n .after)
+    pub kind-read-one : (k : Kind) → is Strictly (w .token) ≡ false → k ≡ plain (w .token)
+        → _≡_ {A = Kinded} (record { kind = k; after = lineWords t (w .span .end) }) (kindAt t (lineWords t at))
+    kind-read-one k e q = rw (kind-one (lineWords t at) (word-token at w f Strictly false e), q, f .next .after, f .token)
 
-    module _ (v : Span) (m : NextWord (inClass Space) t (w .end) v) where
-      pub token-second : (r : Token) → r ≡ tokenOf (bytesOf t v) → token t (rest (lineWords t at)) ≡ r
-      token-second r e = rw (← n .after) (token-read (w .end) v m r e)
-
-      pub after-second : lineWords t (v .end) ≡ rest (rest (lineWords t at))
-      after-second = m .after ∙ ap rest (n .after)
-
-      pub kind-read-two : (k : Kind) → is Strictly (token t (lineWords t at)) ≡ true → k ≡ strictKind (plain (token t (rest (lineWords t at))))
-          → _≡_ {A = Kinded} (record { kind = k; after = lineWords t (v .end) }) (kindAt t (lineWords t at))
-      kind-read-two k e q = rw (kind-two (lineWords t at) e, q, after-second)
+    pub kind-read-two : (v : WordRead) → FirstWord t (w .span .end) v → (k : Kind) → is Strictly (w .token) ≡ true → k ≡ strictKind (plain (v .token))
+        → _≡_ {A = Kinded} (record { kind = k; after = lineWords t (v .span .end) }) (kindAt t (lineWords t at))
+    kind-read-two v g k e q = rw (kind-two (lineWords t at) (word-token at w f Strictly true e), q, after-second at w f v g, second-is at w f v g)
 
   -- ---- forms
-  module _ (operands : Operands) (b : Builder) (ws : List Span) where
-    pub pair-none : operands b ws ≡ noForm → pair t operands b ws ≡ noForm
-    unfolding pair
-    pair-none e = then-none _ _ e
-
-    module _ (a : Placed) (us : List Span) (e : operands b ws ≡ parsed a us) (k : Kinded) (q : k ≡ kindAt t us) where
-      first : pair t operands b ws ≡ second operands k a
-      unfolding pair
-      first = then-some _ _ a us e ∙ rw (← q)
-
-      pub pair-kind : isKind (k .kind) ≡ false → pair t operands b ws ≡ noForm
-      pair-kind f = first ∙ unfold second in not-only _ _ f
-
-      module _ (f : isKind (k .kind) ≡ true) where
-        pub pair-second : operands (a .builder) (k .after) ≡ noForm → pair t operands b ws ≡ noForm
-        pair-second g = first ∙ (unfold second in (only _ _ f ∙ then-none _ _ g))
-
-        pub pair-some : (c : Placed) (vs : List Span) → operands (a .builder) (k .after) ≡ parsed c vs
-            → pair t operands b ws ≡ parsed (record { builder = c .builder; constraint = sides (k .kind) (a .clock) (c .clock) (record { 0 = 0 }) }) vs
-        pair-some c vs g = first ∙ (unfold second in (only _ _ f ∙ then-some _ _ c vs g))
-
-    pub await-none : is Digits (token t ws) ≡ false → awaitSide t operands b ws ≡ noForm
-    unfolding awaitSide
-    await-none e = not-only _ _ e
-
-    module _ (e : is Digits (token t ws) ≡ true) where
-      pub await-operand : operands b (rest ws) ≡ noForm → awaitSide t operands b ws ≡ noForm
-      unfolding awaitSide
-      await-operand g = only _ _ e ∙ then-none _ _ g
-
-      pub await-some : (a : Placed) (us : List Span) → operands b (rest ws) ≡ parsed a us
-          → awaitSide t operands b ws ≡ parsed (record { builder = a .builder; constraint = sides (Defines AwaitKind) (a .clock) 0 (record { 0 = awaitNumber (bytesOf t (front t ws)) }) }) us
-      unfolding awaitSide
-      await-some a us g = only _ _ e ∙ then-some _ _ a us g
-
-    pub right-await : is Await (token t ws) ≡ true → expression t operands b ws ≡ awaitSide t operands b (rest ws)
+  module _ {S : Type 0} (operands : Operands S) (s : S) (ws : List Span) where
+    right-await : is Await (token t ws) ≡ true → expression t operands s ws ≡ awaitSide t operands s (rest ws)
     unfolding expression
     right-await e = rw e
 
-    pub right-pair : is Await (token t ws) ≡ false → expression t operands b ws ≡ pair t operands b ws
+    right-pair : is Await (token t ws) ≡ false → expression t operands s ws ≡ pair t operands s ws
     unfolding expression
     right-pair e = rw e
 
-    pub line-defines : (is Name (token t ws) && is ClockDef (token t (rest ws))) ≡ true → lineForm t operands b ws ≡ closed true (clockAt t b (front t ws)) (expression t operands b (rest (rest ws)))
-    unfolding lineForm
-    line-defines e = rw e
+    module _ (w : is Await (token t ws) ≡ true) where
+      pub await-none : is Digits (token t (rest ws)) ≡ false → expression t operands s ws ≡ noForm
+      await-none e = right-await w ∙ (unfold awaitSide in not-only _ _ e)
 
-    pub line-relates : (is Name (token t ws) && is ClockDef (token t (rest ws))) ≡ false → lineForm t operands b ws ≡ closed false 0 (pair t operands b ws)
-    unfolding lineForm
-    line-relates e = rw e
+      module _ (d : is Digits (token t (rest ws)) ≡ true) where
+        pub await-operand : operands s (rest (rest ws)) ≡ noForm → expression t operands s ws ≡ noForm
+        await-operand g = right-await w ∙ (unfold awaitSide in (only _ _ d ∙ then-none _ _ g))
+
+        pub await-some : (a : Placed S) (us : List Span) → operands s (rest (rest ws)) ≡ parsed a us
+            → expression t operands s ws ≡ parsed (record { left = a .left; constraint = sides (Defines AwaitKind) (a .clock) 0 (record { 0 = awaitNumber (bytesOf t (front t (rest ws))) }) }) us
+        await-some a us g = right-await w ∙ (unfold awaitSide in (only _ _ d ∙ then-some _ _ a us g))
+
+    module _ (w : is Await (token t ws) ≡ false) where
+      pub pair-none : operands s ws ≡ noForm → expression t operands s ws ≡ noForm
+      pair-none e = right-pair w ∙ (unfold pair in then-none _ _ e)
+
+      module _ (a : Placed S) (us : List Span) (e : operands s ws ≡ parsed a us) (k : Kinded) (q : k ≡ kindAt t us) where
+        first : expression t operands s ws ≡ second t operands k a
+        first = right-pair w ∙ (unfold pair in (then-some _ _ a us e ∙ rw (← q)))
+
+        pub pair-kind : isKind (k .kind) ≡ false → expression t operands s ws ≡ noForm
+        pair-kind f = first ∙ unfold second in not-only _ _ f
+
+        module _ (f : isKind (k .kind) ≡ true) where
+          pub pair-second : operands (a .left) (k .after) ≡ noForm → expression t operands s ws ≡ noForm
+          pair-second g = first ∙ (unfold second in (only _ _ f ∙ then-none _ _ g))
+
+          pub pair-some : (c : Placed S) (vs : List Span) → operands (a .left) (k .after) ≡ parsed c vs
+              → expression t operands s ws ≡ parsed (record { left = c .left; constraint = sides (k .kind) (a .clock) (c .clock) (record { 0 = 0 }) }) vs
+          pair-some c vs g = first ∙ (unfold second in (only _ _ f ∙ then-some _ _ c vs g))
+
+    module _ (clock : Span → ℕ) where
+      pub line-defines : (is Name (token t ws) && is ClockDef (token t (rest ws))) ≡ true → lineForm t clock operands s ws ≡ closed true (clock (front t ws)) (expression t operands s (rest (rest ws)))
+      unfolding lineForm
+      line-defines e = rw e
+
+      pub line-relates : (is Name (token t ws) && is ClockDef (token t (rest ws))) ≡ false → lineForm t clock operands s ws ≡ closed false 0 (expression t operands s ws)
+      unfolding lineForm
+      line-relates e = rw e
 
 -- ---- the end of a line
-module _ (d : Bool) (c : ℕ) (p : Parsed Formed) where
+module _ {S : Type 0} (d : Bool) (c : ℕ) (p : Parsed (Formed S)) where
   pub closed-none : p ≡ noForm → closed d c p ≡ noForm
   closed-none e = then-none p _ e
 
-  module _ (f : Formed) where
-    pub closed-more : (w : Span) (ws : List Span) → p ≡ parsed f (w ∷ ws) → closed d c p ≡ noForm
+  module _ (f : Formed S) where
+    closed-more : (w : Span) (ws : List Span) → p ≡ parsed f (w ∷ ws) → closed d c p ≡ noForm
     unfolding atEnd
     closed-more w ws e = then-some p _ f (w ∷ ws) e
 
     module _ (e : p ≡ parsed f []) where
-      pub closed-side : isSide d (f .constraint .kind) ≡ false → closed d c p ≡ noForm
+      closed-side : isSide d (f .constraint .kind) ≡ false → closed d c p ≡ noForm
       unfolding atEnd
       closed-side g = then-some p _ f [] e ∙ not-only _ _ g
 
-      pub closed-some : isSide d (f .constraint .kind) ≡ true → closed d c p ≡ parsed (record { builder = f .builder; constraint = defining c (f .constraint) }) []
+      closed-some : isSide d (f .constraint .kind) ≡ true → closed d c p ≡ parsed (record { left = f .left; constraint = defining c (f .constraint) }) []
       unfolding atEnd
       closed-some g = then-some p _ f [] e ∙ only _ _ g
 
 -- the same of a form that was read in code
-module _ (t : List ℕ) (d : Bool) (k : ℕ) (f : FormRead) (fits : f .fits ≡ true) where
-  abbrev formed : Formed
-  formed = record { builder = f .builder; constraint = f .constraint }
+module _ {S : Type 0} (t : List ℕ) (s : S) (d : Bool) (k : ℕ) (f : FormRead) (fits : f .fits ≡ true) where
+  abbrev formed : Formed S
+  formed = record { left = s; constraint = f .constraint }
 
-  pub ended-more : (w : Span) (ws : List Span) → lineWords t (f .at) ≡ w ∷ ws → closed d k (formRead t f) ≡ noForm
-  ended-more w ws e = closed-more d k (formRead t f) formed w ws (form-is t f fits ∙ ap (λ (us : List Span). parsed formed us) e)
+  pub ended-more : (w : Span) (ws : List Span) → lineWords t (f .at) ≡ w ∷ ws → closed d k (formRead t s f) ≡ noForm
+  ended-more w ws e = closed-more d k (formRead t s f) formed w ws (form-is t s f fits ∙ ap (λ (us : List Span). parsed formed us) e)
 
   module _ (none : lineWords t (f .at) ≡ []) where
-    at-last : formRead t f ≡ parsed formed []
-    at-last = form-is t f fits ∙ ap (λ (us : List Span). parsed formed us) none
+    at-last : formRead t s f ≡ parsed formed []
+    at-last = form-is t s f fits ∙ ap (λ (us : List Span). parsed formed us) none
 
-    pub ended-side : isSide d (f .constraint .kind) ≡ false → closed d k (formRead t f) ≡ noForm
-    ended-side e = closed-side d k (formRead t f) formed at-last e
+    pub ended-side : isSide d (f .constraint .kind) ≡ false → closed d k (formRead t s f) ≡ noForm
+    ended-side e = closed-side d k (formRead t s f) formed at-last e
 
     pub ended-read : isSide d (f .constraint .kind) ≡ true
-        → formRead t (record { fits = true; at = f .at; builder = f .builder; constraint = defining k (f .constraint) }) ≡ closed d k (formRead t f)
+        → formRead t s (record { fits = true; at = f .at; constraint = defining k (f .constraint) }) ≡ closed d k (formRead t s f)
     ended-read e =
-        form-is t (record { fits = true; at = f .at; builder = f .builder; constraint = defining k (f .constraint) }) refl
-        ∙ ap (λ (us : List Span). parsed (record { builder = f .builder; constraint = defining k (f .constraint) }) us) none
-        ∙ sym (closed-some d k (formRead t f) formed at-last e)
+        form-is t s (record { fits = true; at = f .at; constraint = defining k (f .constraint) }) refl
+        ∙ ap (λ (us : List Span). parsed (record { left = s; constraint = defining k (f .constraint) }) us) none
+        ∙ sym (closed-some d k (formRead t s f) formed at-last e)

@@ -7,7 +7,7 @@ use native.Mathlib.Decide.{decLt}
 use native.Mathlib.Omega.{arith}
 use lib.ListN.{length, take, drop, getD, length-take, drop-of-length-le}
 use lib.Seq.{getD-take}
-use Rattle.text.specs.Bytes.{inClass, sameBytes}
+use Rattle.text.specs.Bytes.{sameBytes}
 use Rattle.text.specs.Split.{bytesOf, wordsAt, rest, NextWord}
 use Rattle.text.specs.declared.Class.the-variants.{Space}
 use Rattle.text.specs.declared.Span.{Span}
@@ -75,14 +75,14 @@ unfolding lookUp sameBytes shapeOf
 end-other t ns w h = let e : w .end - w .start ≡ 0 = omega arith in rw e
 
 -- a turn of the loop over a line's words
-module _ (t : List ℕ) (ns : Names) (at : ℕ) (w : Span) (n : NextWord (inClass Space) t at w) where
-  pub words-turn : withWords t ns (wordsAt (inClass Space) t at) ≡ withWords t (withWord t ns w) (wordsAt (inClass Space) t (w .end))
+module _ (t : List ℕ) (ns : Names) (at : ℕ) (w : Span) (n : NextWord Space t at w) where
+  pub words-turn : withWords t ns (wordsAt Space t at) ≡ withWords t (withWord t ns w) (wordsAt Space t (w .end))
   words-turn = go (decLt (w .start) (w .end))
     where
-      go : Dec (w .start < w .end) → withWords t ns (wordsAt (inClass Space) t at) ≡ withWords t (withWord t ns w) (wordsAt (inClass Space) t (w .end))
-      go (yes h) = ap (withWords t ns) (is-word t (inClass Space) at w n h) ∙ words-one t ns w (wordsAt (inClass Space) t (w .end))
+      go : Dec (w .start < w .end) → withWords t ns (wordsAt Space t at) ≡ withWords t (withWord t ns w) (wordsAt Space t (w .end))
+      go (yes h) = ap (withWords t ns) (is-word t Space at w n h) ∙ words-one t ns w (wordsAt Space t (w .end))
       go (no h) =
           let l : w .end ≤ w .start = omega arith in
-          let e = is-last t (inClass Space) at w n l in
-          let f : wordsAt (inClass Space) t (w .end) ≡ [] = n .after ∙ ap rest e ∙ rest-none in
+          let e = is-last t Space at w n l in
+          let f : wordsAt Space t (w .end) ≡ [] = n .after ∙ ap rest e ∙ rest-none in
           words-none t ns _ e ∙ sym (end-other t ns w l) ∙ sym (words-none t (withWord t ns w) _ f)

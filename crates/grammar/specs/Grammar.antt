@@ -1,6 +1,6 @@
 -- The forms of a line, as readers of its words: what stands at their front, and the words after it (document 01, "Table text").
--- Every reader but that of an operand takes the reader of operands, so that only this one says that an operand is one word.
--- t is the text up to the line's end. Assumes nothing.
+-- Every reader but that of an operand takes the reader of operands, so that only this one says that an operand is one word, and
+-- hands on what operands leave for the next one, of any type S. t is the text up to the line's end. Assumes nothing.
 use mathlib.Core.Bool.{Bool, true, false, not, cond, _&&_}
 use mathlib.Core.List.{List, [], _∷_}
 use Prim.Native.Nat.{ℕ}
@@ -13,7 +13,6 @@ use Rattle.constraint.specs.declared.Kind.the-variants.{Empty, Relates, Defines
 use Rattle.constraint.specs.declared.Parameter.{Parameter}
 use Rattle.constraint.specs.declared.Relation.{Relation}
 use Rattle.constraint.specs.declared.Relation.the-variants.{Coincides, Excludes, SubClock, StrictlyPrecedes, Precedes}
-use Rattle.text.specs.Bytes.{inClass}
 use Rattle.text.specs.Digits.{number}
 use Rattle.text.specs.Split.{bytesOf, wordsAt, front, rest}
 use Rattle.text.specs.declared.Class.the-variants.{Space}
@@ -22,18 +21,15 @@ use Rattle.text.specs.declared.Number.the-variants.{NotDigits, TooLarge, Value}
 use Rattle.text.specs.declared.Span.{Span}
 use Rattle.grammar.specs.Names.{numberIn}
 use Rattle.grammar.specs.Tokens.{is, tokenOf}
-use Rattle.grammar.specs.declared.Builder.{Builder}
-use Rattle.grammar.specs.declared.FormRead.{FormRead}
 use Rattle.grammar.specs.declared.Found.{Found}
 use Rattle.grammar.specs.declared.Found.the-variants.{At, Nothing}
-use Rattle.grammar.specs.declared.KindRead.{KindRead}
-use Rattle.grammar.specs.declared.OperandRead.{OperandRead}
+use Rattle.grammar.specs.declared.Names.{Names}
 use Rattle.grammar.specs.declared.Token.{Token}
 use Rattle.grammar.specs.declared.Token.the-variants.{End, Other, Name, Digits, ClockDef, Await, Strictly, Form}
 
 -- the words of a line: parted by one or more spaces
 abbrev pub lineWords : List ℕ → ℕ → List Span
-lineWords t at = wordsAt (inClass Space) t at
+lineWords t at = wordsAt Space t at
 
 -- what the first word is
 abbrev pub token : List ℕ → List Span → Token
@@ -52,29 +48,32 @@ unfoldable pub onlyIf : {A : Type 0} → Bool → Parsed A → Parsed A
 onlyIf true p = p
 onlyIf false p = noForm
 
--- an operand that was read: the table with it, and its clock
-pub record Placed : Type 0 where
-  pub builder : Builder
+-- an operand that was read: what it leaves for the next one, and its clock
+pub record Placed (S : Type 0) : Type 0 where
+  pub left : S
   pub clock : ℕ
 
--- a form that was read: the table with its operands, and its constraint
-pub record Formed : Type 0 where
-  pub builder : Builder
+-- a form that was read: what its operands leave, and its constraint
+pub record Formed (S : Type 0) : Type 0 where
+  pub left : S
   pub constraint : Constraint
 
 -- ---- operands
+
+abbrev pub Operands : Type 0 → Type 0
+Operands S = S → List Span → Parsed (Placed S)
 
 abbrev pub clockOf : Found → ℕ
 clockOf (At k) = k
 clockOf Nothing = 32
 
 -- the clock whose name a word is
-abbrev pub clockAt : List ℕ → Builder → Span → ℕ
-clockAt t b w = clockOf (numberIn t (b .table .names) (bytesOf t w))
+abbrev pub clockAt : List ℕ → Names → Span → ℕ
+clockAt t ns w = clockOf (numberIn t ns (bytesOf t w))
 
--- the reader of operands: one name
-unfoldable pub operand : List ℕ → Builder → List Span → Parsed Placed
-operand t b ws = onlyIf (is Name (token t ws)) (parsed (record { builder = b; clock = clockAt t b (front t ws) }) (rest ws))
+-- the reader of operands: one name. It leaves the names as they are
+unfoldable pub operand : List ℕ → Operands Names
+operand t ns ws = onlyIf (is Name (token t ws)) (parsed (record { left = ns; clock = clockAt t ns (front t ws) }) (rest ws))
 
 -- ---- kinds: one word, or two where the first is `strictly`
 
@@ -129,22 +128,6 @@ isKind (Defines k) = true
 
 -- ---- forms, over the reader of operands
 
-abbrev pub sides : Kind → (first second : ℕ) → Parameter → Constraint
-sides k a b n = record { kind = k; defined = 0; first = a; second = b; parameter = n; line = record { 0 = 0 } }
-
-abbrev pub Operands : Type 0
-Operands = Builder → List Span → Parsed Placed
-
--- the second operand of a pair whose first is a
-unfoldable pub second : Operands → Kinded → Placed → Parsed Formed
-second operands k a =
-    onlyIf (isKind (k .kind))
-    (andThen (operands (a .builder) (k .after)) (λ b ws. parsed (record { builder = b .builder; constraint = sides (k .kind) (a .clock) (b .clock) (record { 0 = 0 }) }) ws))
-
--- two operands with a kind between them
-unfoldable pub pair : List ℕ → Operands → Builder → List Span → Parsed Formed
-pair t operands b ws = andThen (operands b ws) (λ a us. second operands (kindAt t us) a)
-
 -- the number of an await is the value of its digits; 0 stands for one above 1,000,000
 abbrev pub upToMillion : Number → ℕ
 upToMillion NotDigits = 0
@@ -154,15 +137,29 @@ upToMillion (Value n) = cond (leb n 1_000_000) n 0
 abbrev pub awaitNumber : List ℕ → ℕ
 awaitNumber ds = upToMillion (number ds)
 
--- a number and an operand, behind `await`
-unfoldable pub awaitSide : List ℕ → Operands → Builder → List Span → Parsed Formed
-awaitSide t operands b ws =
-    onlyIf (is Digits (token t ws))
-    (andThen (operands b (rest ws)) (λ a us. parsed (record { builder = a .builder; constraint = sides (Defines AwaitKind) (a .clock) 0 (record { 0 = awaitNumber (bytesOf t (front t ws)) }) }) us))
+abbrev pub sides : Kind → (first second : ℕ) → Parameter → Constraint
+sides k a b n = record { kind = k; defined = 0; first = a; second = b; parameter = n; line = record { 0 = 0 } }
 
--- a right side of clockDef
-unfoldable pub expression : List ℕ → Operands → Builder → List Span → Parsed Formed
-expression t operands b ws = cond (is Await (token t ws)) (awaitSide t operands b (rest ws)) (pair t operands b ws)
+module _ {S : Type 0} (t : List ℕ) (operands : Operands S) where
+  -- the second operand of a pair whose first is a
+  unfoldable pub second : Kinded → Placed S → Parsed (Formed S)
+  second k a =
+      onlyIf (isKind (k .kind))
+      (andThen (operands (a .left) (k .after)) (λ b ws. parsed (record { left = b .left; constraint = sides (k .kind) (a .clock) (b .clock) (record { 0 = 0 }) }) ws))
+
+  -- two operands with a kind between them
+  unfoldable pub pair : S → List Span → Parsed (Formed S)
+  pair s ws = andThen (operands s ws) (λ a us. second (kindAt t us) a)
+
+  -- a number and an operand, behind `await`
+  unfoldable pub awaitSide : S → List Span → Parsed (Formed S)
+  awaitSide s ws =
+      onlyIf (is Digits (token t ws))
+      (andThen (operands s (rest ws)) (λ a us. parsed (record { left = a .left; constraint = sides (Defines AwaitKind) (a .clock) 0 (record { 0 = awaitNumber (bytesOf t (front t ws)) }) }) us))
+
+  -- a right side: of clockDef, or of a line that is a relation
+  unfoldable pub expression : S → List Span → Parsed (Formed S)
+  expression s ws = cond (is Await (token t ws)) (awaitSide s (rest ws)) (pair s ws)
 
 -- ---- lines
 
@@ -175,27 +172,21 @@ isSide d (Defines k) = d
 abbrev pub defining : ℕ → Constraint → Constraint
 defining c r = record { kind = r .kind; defined = c; first = r .first; second = r .second; parameter = r .parameter; line = r .line }
 
-unfoldable pub atEnd : Bool → ℕ → Formed → List Span → Parsed Formed
-atEnd d c f [] = onlyIf (isSide d (f .constraint .kind)) (parsed (record { builder = f .builder; constraint = defining c (f .constraint) }) [])
+unfoldable pub atEnd : {S : Type 0} → Bool → ℕ → Formed S → List Span → Parsed (Formed S)
+atEnd d c f [] = onlyIf (isSide d (f .constraint .kind)) (parsed (record { left = f .left; constraint = defining c (f .constraint) }) [])
 atEnd d c f (w ∷ ws) = noForm
 
 -- a form after which no word is left, and which defines the clock c
-abbrev pub closed : Bool → ℕ → Parsed Formed → Parsed Formed
+abbrev pub closed : {S : Type 0} → Bool → ℕ → Parsed (Formed S) → Parsed (Formed S)
 closed d c p = andThen p (atEnd d c)
 
-unfoldable pub lineForm : List ℕ → Operands → Builder → List Span → Parsed Formed
-lineForm t operands b ws =
+-- a line: a name, clockDef and a right side, or a relation. clock says which clock a name is
+unfoldable pub lineForm : {S : Type 0} → List ℕ → (clock : Span → ℕ) → Operands S → S → List Span → Parsed (Formed S)
+lineForm t clock operands s ws =
     cond (is Name (token t ws) && is ClockDef (token t (rest ws)))
-    (closed true (clockAt t b (front t ws)) (expression t operands b (rest (rest ws))))
-    (closed false 0 (pair t operands b ws))
+    (closed true (clock (front t ws)) (expression t operands s (rest (rest ws))))
+    (closed false 0 (expression t operands s ws))
 
--- ---- what the readers in code answer stands for
-
-abbrev pub operandRead : List ℕ → OperandRead → Parsed Placed
-operandRead t r = onlyIf (r .fits) (parsed (record { builder = r .builder; clock = r .clock }) (lineWords t (r .at)))
-
-abbrev pub kindRead : List ℕ → KindRead → Kinded
-kindRead t r = record { kind = r .kind; after = lineWords t (r .at) }
-
-abbrev pub formRead : List ℕ → FormRead → Parsed Formed
-formRead t r = onlyIf (r .fits) (parsed (record { builder = r .builder; constraint = r .constraint }) (lineWords t (r .at)))
+-- the form of a line whose operands are names, in a table that has these names
+abbrev pub formIn : List ℕ → Names → List Span → Parsed (Formed Names)
+formIn t ns ws = lineForm t (clockAt t ns) (operand t) ns ws

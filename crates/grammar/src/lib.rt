@@ -1,20 +1,24 @@
 // A line of a table: its words told apart, the names of clocks with their numbers, the table so far, and the forms of a line as readers of
 // its words (document 01, "Table text").
 
+mod building;
 mod line;
 mod naming;
 mod words;
 
+pub use building::empty_table;
+pub use building::finish;
+pub use building::start;
+pub use building::with_constraint;
 use constraint::Constraint;
 use constraint::Kind;
-use limit::Place;
 pub use line::await_number;
-pub use line::is_name;
 pub use line::line_form;
 pub use naming::find_name;
 pub use naming::with_words;
 use text::Span;
-pub use words::token_at;
+pub use words::is;
+pub use words::word_at;
 
 // What a word is to the line reader: a word of a form, a clock's name, digits, any other word, or none at a line's end.
 pub enum Token {
@@ -26,6 +30,12 @@ pub enum Token {
     Await,
     Strictly,
     Form(Kind),
+}
+
+// The first word of a line from an offset on, and what it is; the empty one where there is none.
+pub struct WordRead {
+    pub span: Span,
+    pub token: Token,
 }
 
 // The number of a clock, if the table names it.
@@ -48,18 +58,16 @@ pub struct Table {
     pub names: Names,
 }
 
-// The table so far, the clocks that it defines as a tick set, and the line that is read.
+// The table so far, and the clocks that it defines, as a tick set.
 pub struct Builder {
     pub table: Table,
     pub defined: u32,
-    pub line: Place,
 }
 
-// What an operand's reader answers: whether an operand stands there, where it ends, the table with it, and its clock.
+// What an operand's reader answers: whether an operand stands there, where it ends, and its clock.
 pub struct OperandRead {
     pub fits: bool,
     pub at: usize,
-    pub builder: Builder,
     pub clock: u8,
 }
 
@@ -69,10 +77,9 @@ pub struct KindRead {
     pub at: usize,
 }
 
-// What the reader of a form answers: whether it fits, where it ends, the table with its operands, and its constraint.
+// What the reader of a form answers: whether it fits, where it ends, and its constraint.
 pub struct FormRead {
     pub fits: bool,
     pub at: usize,
-    pub builder: Builder,
     pub constraint: Constraint,
 }

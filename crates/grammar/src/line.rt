@@ -1,13 +1,14 @@
 // The form of a line: readers of operands, kinds, right sides and whole lines, each from an offset of the text that ends with
 // the line. Only the operand's reader knows that an operand is one word.
-use super::Builder;
 use super::FormRead;
 use super::Found;
 use super::KindRead;
+use super::Names;
 use super::OperandRead;
 use super::Token;
 use super::naming::find_name;
-use super::words::token_at;
+use super::words::is;
+use super::words::word_at;
 use constraint::Constraint;
 use constraint::Definition;
 use constraint::Kind;
@@ -19,10 +20,9 @@ use text::Number;
 use text::Span;
 ghost use mathlib.Core.Path.{_≡_};
 ghost use mathlib.Core.Bool.{false};
-ghost use Rattle.text.specs.Split.{bytesOf};
+ghost use Rattle.grammar.specs.Answers as a;
 ghost use Rattle.grammar.specs.Grammar as g;
-ghost use Rattle.grammar.specs.Tokens.{is};
-ghost use Rattle.grammar.specs.declared.Token.the-variants.{Name, ClockDef};
+ghost use Rattle.grammar.specs.declared.Names.{Names};
 
 // The clock that a look-up finds; a name that there is no room for has none.
 fn clock_of(found: Found) -> u8
@@ -35,33 +35,29 @@ fn clock_of(found: Found) -> u8
 }
 
 // The clock whose name a word is.
-fn clock_at(line: &[u8], builder: Builder, word: Span) -> u8
-    ensures { λ r. ⌜ r ≡ g.clockAt (now (line .entry)) builder word ⌝ }
+fn clock_at(line: &[u8], names: Names, word: Span) -> u8
+    ensures { λ r. ⌜ r ≡ g.clockAt (now (line .entry)) names word ⌝ }
 {
-    let table = builder.table;
-    let names = table.names;
     clock_of(find_name(line, names, text::part(line, word)))
 }
 
 // An operand: the name of a clock.
-pub fn operand(line: &[u8], builder: Builder, at: usize) -> OperandRead
-    ensures { λ r. ⌜ g.operandRead (now (line .entry)) r ≡ g.operand (now (line .entry)) builder (g.lineWords (now (line .entry)) at) ⌝ }
+fn operand(line: &[u8], names: Names, at: usize) -> OperandRead
+    ensures { λ r. ⌜ a.operandRead (now (line .entry)) names r ≡ g.operand (now (line .entry)) names (g.lineWords (now (line .entry)) at) ⌝ }
 {
-    let word = text::next_word(Class::Space, line, at);
-    let token = token_at(line, word);
-    let Token::Name = token else {
+    let word = word_at(line, at);
+    if !is(Token::Name, word) {
         return OperandRead {
             fits: false,
             at,
-            builder,
             clock: 0,
         };
-    };
+    }
+    let span = word.span;
     OperandRead {
         fits: true,
-        at: word.end,
-        builder,
-        clock: clock_at(line, builder, word),
+        at: span.end,
+        clock: clock_at(line, names, span),
     }
 }
 
@@ -123,20 +119,21 @@ fn plain(token: Token) -> Kind
 
 // A kind: one word, or two where the first is `strictly`.
 fn kind_at(line: &[u8], at: usize) -> KindRead
-    ensures { λ r. ⌜ g.kindRead (now (line .entry)) r ≡ g.kindAt (now (line .entry)) (g.lineWords (now (line .entry)) at) ⌝ }
+    ensures { λ r. ⌜ a.kindRead (now (line .entry)) r ≡ g.kindAt (now (line .entry)) (g.lineWords (now (line .entry)) at) ⌝ }
 {
-    let word = text::next_word(Class::Space, line, at);
-    let token = token_at(line, word);
-    let Token::Strictly = token else {
+    let word = word_at(line, at);
+    if !is(Token::Strictly, word) {
+        let token = word.token;
         return KindRead {
             kind: plain(token),
-            at: word.end,
+            at: word.span.end,
         };
-    };
-    let second = text::next_word(Class::Space, line, word.end);
+    }
+    let second = word_at(line, word.span.end);
+    let token = second.token;
     KindRead {
-        kind: strict_kind(plain(token_at(line, second))),
-        at: second.end,
+        kind: strict_kind(plain(token)),
+        at: second.span.end,
     }
 }
 
@@ -165,41 +162,13 @@ fn sides(kind: Kind, first: u8, second: u8, parameter: Parameter) -> Constraint
 }
 
 // The answer that no form fits.
-fn no_form(builder: Builder) -> FormRead
+fn no_form() -> FormRead
     ensures { λ r. ⌜ r .fits ≡ false ⌝ }
 {
     FormRead {
         fits: false,
         at: 0,
-        builder,
         constraint: sides(Kind::Empty, 0, 0, Parameter(0)),
-    }
-}
-
-// Two operands with a kind between them.
-fn pair(line: &[u8], builder: Builder, at: usize) -> FormRead
-    ensures { λ r. ⌜ g.formRead (now (line .entry)) r ≡ g.pair (now (line .entry)) (g.operand (now (line .entry))) builder (g.lineWords (now (line .entry)) at) ⌝ }
-{
-    let a = operand(line, builder, at);
-    if !a.fits {
-        return no_form(builder);
-    }
-    let k = kind_at(line, a.at);
-    let kind = k.kind;
-    if !is_kind(kind) {
-        return no_form(builder);
-    }
-    let with_a = a.builder;
-    let b = operand(line, with_a, k.at);
-    if !b.fits {
-        return no_form(builder);
-    }
-    let with_b = b.builder;
-    FormRead {
-        fits: true,
-        at: b.at,
-        builder: with_b,
-        constraint: sides(kind, a.clock, b.clock, Parameter(0)),
     }
 }
 
@@ -219,39 +188,51 @@ pub fn await_number(digits: &[u8]) -> u32
     }
 }
 
-// A number and an operand, behind `await`.
-fn await_side(line: &[u8], builder: Builder, at: usize) -> FormRead
-    ensures { λ r. ⌜ g.formRead (now (line .entry)) r ≡ g.awaitSide (now (line .entry)) (g.operand (now (line .entry))) builder (g.lineWords (now (line .entry)) at) ⌝ }
+// A right side: a number and an operand behind `await`, or two operands with a kind between them.
+fn expression(line: &[u8], names: Names, at: usize) -> FormRead
+    ensures { λ r. ⌜ a.formRead (now (line .entry)) names r ≡ g.expression (now (line .entry)) (g.operand (now (line .entry))) names (g.lineWords (now (line .entry)) at) ⌝ }
 {
-    let number = text::next_word(Class::Space, line, at);
-    let token = token_at(line, number);
-    let Token::Digits = token else {
-        return no_form(builder);
-    };
-    let a = operand(line, builder, number.end);
-    if !a.fits {
-        return no_form(builder);
+    let word = word_at(line, at);
+    if is(Token::Await, word) {
+        let number = word_at(line, word.span.end);
+        if !is(Token::Digits, number) {
+            return no_form();
+        }
+        let awaited = operand(line, names, number.span.end);
+        if !awaited.fits {
+            return no_form();
+        }
+        let digits = number.span;
+        let n = await_number(text::part(line, digits));
+        return FormRead {
+            fits: true,
+            at: awaited.at,
+            constraint: sides(
+                Kind::Defines(Definition::Await),
+                awaited.clock,
+                0,
+                Parameter(n),
+            ),
+        };
     }
-    let with_a = a.builder;
-    let n = await_number(text::part(line, number));
+    let first = operand(line, names, at);
+    if !first.fits {
+        return no_form();
+    }
+    let between = kind_at(line, first.at);
+    let kind = between.kind;
+    if !is_kind(kind) {
+        return no_form();
+    }
+    let second = operand(line, names, between.at);
+    if !second.fits {
+        return no_form();
+    }
     FormRead {
         fits: true,
-        at: a.at,
-        builder: with_a,
-        constraint: sides(Kind::Defines(Definition::Await), a.clock, 0, Parameter(n)),
+        at: second.at,
+        constraint: sides(kind, first.clock, second.clock, Parameter(0)),
     }
-}
-
-// A right side of clockDef.
-fn expression(line: &[u8], builder: Builder, at: usize) -> FormRead
-    ensures { λ r. ⌜ g.formRead (now (line .entry)) r ≡ g.expression (now (line .entry)) (g.operand (now (line .entry))) builder (g.lineWords (now (line .entry)) at) ⌝ }
-{
-    let word = text::next_word(Class::Space, line, at);
-    let token = token_at(line, word);
-    let Token::Await = token else {
-        return pair(line, builder, at);
-    };
-    await_side(line, builder, word.end)
 }
 
 // Whether a kind is of the side that a line asks for: a definition behind clockDef, a relation without it.
@@ -267,57 +248,39 @@ fn is_side(definition: bool, kind: Kind) -> bool
 
 // A form of the side that the line asks for, with no word after it, which defines a clock.
 fn closed(line: &[u8], definition: bool, clock: u8, form: FormRead) -> FormRead
-    ensures { λ r. ⌜ g.formRead (now (line .entry)) r ≡ g.closed definition clock (g.formRead (now (line .entry)) form) ⌝ }
+    ensures { λ r. ⌜ ((ns : Names) → a.formRead (now (line .entry)) ns r ≡ g.closed definition clock (a.formRead (now (line .entry)) ns form)) ⌝ }
 {
-    let builder = form.builder;
     if !form.fits {
-        return no_form(builder);
+        return no_form();
     }
     let at = form.at;
     let word = text::next_word(Class::Space, line, at);
     if word.start < word.end {
-        return no_form(builder);
+        return no_form();
     }
     let mut constraint = form.constraint;
     let kind = constraint.kind;
     if !is_side(definition, kind) {
-        return no_form(builder);
+        return no_form();
     }
     constraint.defined = clock;
     FormRead {
         fits: true,
         at,
-        builder,
         constraint,
     }
 }
 
-pub fn is_name(token: Token) -> bool
-    ensures { λ r. ⌜ r ≡ is Name token ⌝ }
-{
-    if let Token::Name = token { true } else { false }
-}
-
-fn is_clock_def(token: Token) -> bool
-    ensures { λ r. ⌜ r ≡ is ClockDef token ⌝ }
-{
-    if let Token::ClockDef = token {
-        true
-    } else {
-        false
-    }
-}
-
 // A line: a clock, clockDef and a right side, or a relation.
-pub fn line_form(line: &[u8], builder: Builder, at: usize) -> FormRead
-    ensures { λ r. ⌜ g.formRead (now (line .entry)) r ≡ g.lineForm (now (line .entry)) (g.operand (now (line .entry))) builder (g.lineWords (now (line .entry)) at) ⌝ }
+pub fn line_form(line: &[u8], names: Names, at: usize) -> FormRead
+    ensures { λ r. ⌜ a.formRead (now (line .entry)) names r ≡ g.formIn (now (line .entry)) names (g.lineWords (now (line .entry)) at) ⌝ }
 {
-    let clock = text::next_word(Class::Space, line, at);
-    let second = text::next_word(Class::Space, line, clock.end);
-    let defines = is_name(token_at(line, clock)) & is_clock_def(token_at(line, second));
-    if defines {
-        let form = expression(line, builder, second.end);
-        return closed(line, true, clock_at(line, builder, clock), form);
+    let clock = word_at(line, at);
+    let second = word_at(line, clock.span.end);
+    if is(Token::Name, clock) & is(Token::ClockDef, second) {
+        let form = expression(line, names, second.span.end);
+        let name = clock.span;
+        return closed(line, true, clock_at(line, names, name), form);
     }
-    closed(line, false, 0, pair(line, builder, at))
+    closed(line, false, 0, expression(line, names, at))
 }

@@ -2,14 +2,15 @@
 use super::Found;
 use super::Names;
 use super::Token;
-use super::words::token_at;
-use text::Class;
+use super::WordRead;
+use super::words::is;
+use super::words::word_at;
 use text::Span;
 ghost use mathlib.Core.Path.{_≡_};
-ghost use Rattle.text.specs.Bytes.{inClass};
-ghost use Rattle.text.specs.Split.{wordsAt};
+ghost use Rattle.text.specs.Split.{bytesOf, wordsAt};
 ghost use Rattle.text.specs.declared.Class.the-variants.{Space};
 ghost use Rattle.grammar.specs.Names as n;
+ghost use Rattle.grammar.specs.Tokens.{tokenOf};
 
 // The number of the clock with a name, which may stand in another text.
 pub fn find_name(table: &[u8], names: Names, name: &[u8]) -> Found
@@ -47,29 +48,30 @@ fn with_new(names: Names, word: Span) -> Names
 }
 
 // The names with that of a word, if it is a name.
-fn with_word(line: &[u8], names: Names, word: Span) -> Names
-    ensures { λ r. ⌜ r ≡ n.withWord (now (line .entry)) names word ⌝ }
+fn with_word(line: &[u8], names: Names, word: WordRead) -> Names
+    requires { ⌜ word .token ≡ tokenOf (bytesOf (now line) (word .span)) ⌝ }
+    ensures { λ r. ⌜ r ≡ n.withWord (now (line .entry)) names (word .span) ⌝ }
 {
-    let token = token_at(line, word);
-    let Token::Name = token else {
+    if !is(Token::Name, word) {
+        return names;
+    }
+    let span = word.span;
+    let Found::Nothing = find_name(line, names, text::part(line, span)) else {
         return names;
     };
-    let Found::Nothing = find_name(line, names, text::part(line, word)) else {
-        return names;
-    };
-    with_new(names, word)
+    with_new(names, span)
 }
 
 // The names with those of the words from an offset on.
 pub fn with_words(line: &[u8], names: Names, from: usize) -> Names
-    ensures { λ r. ⌜ r ≡ n.withWords (now (line .entry)) names (wordsAt (inClass Space) (now (line .entry)) from) ⌝ }
+    ensures { λ r. ⌜ r ≡ n.withWords (now (line .entry)) names (wordsAt Space (now (line .entry)) from) ⌝ }
 {
     let mut all = names;
     let mut at = from;
     while at < line.len() {
-        let word = text::next_word(Class::Space, line, at);
+        let word = word_at(line, at);
         all = with_word(line, all, word);
-        at = word.end;
+        at = word.span.end;
     }
     all
 }

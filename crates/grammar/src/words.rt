@@ -1,12 +1,12 @@
 // Words of a line, told apart: the words of the forms, names, digits.
 use super::Token;
+use super::WordRead;
 use constraint::Definition;
 use constraint::Kind;
 use constraint::Relation;
 use text::Class;
-use text::Span;
 ghost use mathlib.Core.Path.{_≡_};
-ghost use Rattle.text.specs.Split.{bytesOf};
+ghost use Rattle.grammar.specs.Answers.{FirstWord};
 ghost use Rattle.grammar.specs.Tokens as t;
 
 // What a word without a place in a form is.
@@ -57,7 +57,7 @@ fn definition_word(word: &[u8]) -> Token
 }
 
 // What a word is.
-pub fn token(word: &[u8]) -> Token
+fn token(word: &[u8]) -> Token
     ensures { λ r. ⌜ r ≡ t.tokenOf (now (word .entry)) ⌝ }
 {
     if text::same_bytes(word, b"=") {
@@ -81,9 +81,37 @@ pub fn token(word: &[u8]) -> Token
     definition_word(word)
 }
 
-// What the word at a span is.
-pub fn token_at(line: &[u8], word: Span) -> Token
-    ensures { λ r. ⌜ r ≡ t.tokenOf (bytesOf (now (line .entry)) word) ⌝ }
+// The first word of a line from an offset on, and what it is.
+pub fn word_at(line: &[u8], at: usize) -> WordRead
+    ensures { λ r. ⌜ FirstWord (now (line .entry)) at r ⌝ }
 {
-    token(text::part(line, word))
+    let span = text::next_word(Class::Space, line, at);
+    WordRead {
+        span,
+        token: token(text::part(line, span)),
+    }
+}
+
+// The place of a token among its kind.
+fn tag(token: Token) -> u8
+    ensures { λ r. ⌜ r ≡ t.tag token ⌝ }
+{
+    match token {
+        Token::End => 0,
+        Token::Other => 1,
+        Token::Name => 2,
+        Token::Digits => 3,
+        Token::ClockDef => 4,
+        Token::Await => 5,
+        Token::Strictly => 6,
+        Token::Form(_) => 7,
+    }
+}
+
+// Whether a word is one like a token.
+pub fn is(like: Token, word: WordRead) -> bool
+    ensures { λ r. ⌜ r ≡ t.is like (word .token) ⌝ }
+{
+    let token = word.token;
+    tag(like) == tag(token)
 }

@@ -13,7 +13,7 @@ use Rattle.limit.specs.declared.Check.{Check}
 use Rattle.limit.specs.declared.Check.the-variants.{Passed, Refused}
 use Rattle.limit.specs.declared.Limit.the-variants.{HeaderCommand, VariableShape, DeclaredTwice, VariableCount, ClockUndeclared, RecordingLength, RecordingByte}
 use Rattle.constraint.proofs.Booleans.{and-l, and-r}
-use Rattle.text.specs.Bytes.{inClass, sameBytes}
+use Rattle.text.specs.Bytes.{sameBytes}
 use Rattle.text.specs.Split.{bytesOf, front, rest, NextWord}
 use Rattle.text.specs.declared.Class.the-variants.{Parting}
 use Rattle.text.specs.declared.Span.{Span}
@@ -27,7 +27,7 @@ use Rattle.recording.specs.declared.Words.{Words}
 use Rattle.limit.proofs.CheckLaws.{refuses, allows}
 
 -- a word is left, or none is
-module _ (r : List ℕ) (at : ℕ) (w : Span) (n : NextWord (inClass Parting) r at w) where
+module _ (r : List ℕ) (at : ℕ) (w : Span) (n : NextWord Parting r at w) where
   -- an empty word has no byte
   empty-says : w .end ≤ w .start → says (bytesOf r w) "$end" ≡ false
   unfolding sameBytes
@@ -42,7 +42,7 @@ module _ (r : List ℕ) (at : ℕ) (w : Span) (n : NextWord (inClass Parting) r 
     where
       go : Dec (at < length r) → at < w .end
       go (yes k) = n .forward k
-      go (no k) = absurd (h (words-over r (inClass Parting) at (omega arith)))
+      go (no k) = absurd (h (words-over r Parting at (omega arith)))
 
   -- ---- the words behind the first `$end`
   pub end-stop : says (bytesOf r w) "$end" ≡ true → afterEnd r (words r at) ≡ words r (w .end)
@@ -50,7 +50,7 @@ module _ (r : List ℕ) (at : ℕ) (w : Span) (n : NextWord (inClass Parting) r 
   end-stop e = go (decLt (w .start) (w .end))
     where
       go : Dec (w .start < w .end) → afterEnd r (words r at) ≡ words r (w .end)
-      go (yes h) = rw (is-word r (inClass Parting) at w n h, e)
+      go (yes h) = rw (is-word r Parting at w n h, e)
       go (no h) = absurd (true≢false (sym e ∙ empty-says (omega arith)))
 
   pub end-on : says (bytesOf r w) "$end" ≡ false → afterEnd r (words r at) ≡ afterEnd r (words r (w .end))
@@ -58,14 +58,14 @@ module _ (r : List ℕ) (at : ℕ) (w : Span) (n : NextWord (inClass Parting) r 
   end-on e = go (decLt (w .start) (w .end))
     where
       go : Dec (w .start < w .end) → afterEnd r (words r at) ≡ afterEnd r (words r (w .end))
-      go (yes h) = rw (is-word r (inClass Parting) at w n h, e)
+      go (yes h) = rw (is-word r Parting at w n h, e)
       go (no h) =
-          let k : words r at ≡ [] = is-last r (inClass Parting) at w n (omega arith) in
+          let k : words r at ≡ [] = is-last r Parting at w n (omega arith) in
           ap (afterEnd r) (k ∙ sym (n .after ∙ ap rest k ∙ unfold rest in refl))
 
 pub end-done : (r : List ℕ) (at : ℕ) → length r ≤ at → afterEnd r (words r at) ≡ words r (length r)
 unfolding afterEnd
-end-done r at h = rw (words-over r (inClass Parting) at h, words-over r (inClass Parting) (length r) (omega arith))
+end-done r at h = rw (words-over r Parting at h, words-over r Parting (length r) (omega arith))
 
 -- ---- the end of the header
 module _ (n : ℕ) (r : List ℕ) (at : ℕ) (vs : List Variable) (ws : List Span) where
@@ -140,7 +140,7 @@ module _ (r : List ℕ) (from : ℕ) (ws : Words) (five : FiveWords r from ws) w
     long (a ∷ b ∷ c ∷ d ∷ x ∷ us) l later e = rw (head-eq-of-cons-eq e, tail-eq-of-cons-eq e)
 
     pub declaring-cut : ws .last .end ≤ ws .last .start → declaring named n r vs at (words r from) ≡ cutOff r
-    declaring-cut h = short (words r from) (sym fourth ∙ is-last r (inClass Parting) (ws .name .end) (ws .last) (five .last) h)
+    declaring-cut h = short (words r from) (sym fourth ∙ is-last r Parting (ws .name .end) (ws .last) (five .last) h)
 
     pub declaring-five : ws .last .start < ws .last .end
         → declaring named n r vs at (words r from)
@@ -150,12 +150,12 @@ module _ (r : List ℕ) (from : ℕ) (ws : Words) (five : FiveWords r from ws) w
         let width : ws .width ≡ front r (rest u) = five .width .found ∙ ap (front r) (five .kind .after) in
         let id : ws .id ≡ front r (rest (rest u)) = five .id .found ∙ ap (front r) (five .width .after ∙ ap rest (five .kind .after)) in
         let name : ws .name ≡ front r (rest (rest (rest u))) = five .name .found ∙ ap (front r) (five .id .after ∙ ap rest (five .width .after ∙ ap rest (five .kind .after))) in
-        long u (ws .last) (words r (ws .last .end)) (sym fourth ∙ is-word r (inClass Parting) (ws .name .end) (ws .last) (five .last) h) ∙ rw (five .kind .found, width, id, name)
+        long u (ws .last) (words r (ws .last .end)) (sym fourth ∙ is-word r Parting (ws .name .end) (ws .last) (five .last) h) ∙ rw (five .kind .found, width, id, name)
 
   -- each word ends further on
   pub five-forward : ws .last .start < ws .last .end → from < ws .last .end
   five-forward h =
-      let name : words r (ws .name .end) ≡ [] → ⊥ = λ e. nil≢cons (sym e ∙ is-word r (inClass Parting) (ws .name .end) (ws .last) (five .last) h) in
+      let name : words r (ws .name .end) ≡ [] → ⊥ = λ e. nil≢cons (sym e ∙ is-word r Parting (ws .name .end) (ws .last) (five .last) h) in
       let id = some-before r (ws .id .end) (ws .name) (five .name) name in
       let width = some-before r (ws .width .end) (ws .id) (five .id) id in
       let kind = some-before r (ws .kind .end) (ws .width) (five .width) width in
@@ -179,12 +179,12 @@ module _ (named : List ℕ → ℕ) (n : ℕ) (r : List ℕ) (vs : List Variable
       go true ih = refl
       go false ih = ih
 
-  module _ (at : ℕ) (w : Span) (next : NextWord (inClass Parting) r at w) (some : w .start < w .end) where
+  module _ (at : ℕ) (w : Span) (next : NextWord Parting r at w) (some : w .start < w .end) where
     opens : (k : Command) → commandOf (bytesOf r w) ≡ k
         → header named n r vs (words r at)
         ≡ byCommand k (skipping named n r vs (words r (w .end))) (declaring named n r vs (w .start) (words r (w .end))) (close n r (w .start) vs (words r (w .end))) (stopped HeaderCommand (w .start))
     unfolding header
-    opens k e = rw (is-word r (inClass Parting) at w next some, e)
+    opens k e = rw (is-word r Parting at w next some, e)
 
     pub opens-skipped : commandOf (bytesOf r w) ≡ Skipped → (i : ℕ) → Resumes r (w .end) i → header named n r vs (words r at) ≡ header named n r vs (words r i)
     opens-skipped e i s = opens Skipped e ∙ skipping-on (words r (w .end)) ∙ ap (header named n r vs) (sym (s .left))

@@ -6,7 +6,6 @@ use Prim.Native.Nat.{ℕ, _<_}
 use lib.ListN.{length, drop}
 use Rattle.limit.specs.Checked.{Checked, passed, stopped, andThen, checked}
 use Rattle.limit.specs.declared.Check.the-variants.{Passed}
-use Rattle.text.specs.Bytes.{inClass}
 use Rattle.text.specs.Digits.{number}
 use Rattle.text.specs.Split.{bytesOf, NextWord}
 use Rattle.text.specs.declared.Class.the-variants.{Parting}
@@ -38,11 +37,11 @@ pub record Resumes (r : List ℕ) (from : ℕ) (at : ℕ) : Type 0 where
 
 -- five words in a row, from an offset on
 pub record FiveWords (r : List ℕ) (from : ℕ) (ws : Words) : Type 0 where
-  pub kind : NextWord (inClass Parting) r from (ws .kind)
-  pub width : NextWord (inClass Parting) r (ws .kind .end) (ws .width)
-  pub id : NextWord (inClass Parting) r (ws .width .end) (ws .id)
-  pub name : NextWord (inClass Parting) r (ws .id .end) (ws .name)
-  pub last : NextWord (inClass Parting) r (ws .name .end) (ws .last)
+  pub kind : NextWord Parting r from (ws .kind)
+  pub width : NextWord Parting r (ws .kind .end) (ws .width)
+  pub id : NextWord Parting r (ws .width .end) (ws .id)
+  pub name : NextWord Parting r (ws .id .end) (ws .name)
+  pub last : NextWord Parting r (ws .name .end) (ws .last)
 
 abbrev pub declaredAs : Declared → Checked (List Variable)
 declaredAs d = checked (d .outcome) (declared (d .variables))

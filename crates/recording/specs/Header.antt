@@ -8,7 +8,7 @@ use lib.Dec.{leb, ltb}
 use lib.ListN.{length}
 use Rattle.limit.specs.declared.Limit.the-variants.{RecordingLength, RecordingByte, HeaderCommand, VariableShape, DeclaredTwice, VariableCount, ClockUndeclared, HeaderCutOff}
 use Rattle.text.specs.Ascii.{ascii}
-use Rattle.text.specs.Bytes.{inClass, passes, sameBytes}
+use Rattle.text.specs.Bytes.{passes, sameBytes}
 use Rattle.text.specs.Split.{bytesOf, wordsAt, runEnd}
 use Rattle.text.specs.declared.Class.the-variants.{Parting, Recorded}
 use Rattle.text.specs.declared.Span.{Span}
@@ -19,7 +19,7 @@ use Rattle.recording.specs.declared.Command.the-variants.{Skipped, Decla
 
 -- words are parted by bytes 9, 10, 13, 32
 abbrev pub words : List ℕ → ℕ → List Span
-words r at = wordsAt (inClass Parting) r at
+words r at = wordsAt Parting r at
 
 abbrev pub says : List ℕ → String → Bool
 says w s = sameBytes w (ascii s)

@@ -23,12 +23,10 @@ use Rattle.text.specs.declared.Class.the-variants.{NameByte}
 use Rattle.text.specs.declared.Number.{Number}
 use Rattle.text.specs.declared.Number.the-variants.{NotDigits, TooLarge, Value}
 use Rattle.text.specs.declared.Span.{Span}
-use Rattle.grammar.specs.Grammar.{Parsed, noForm, parsed, andThen, onlyIf, Placed, Formed, token, clockOf, operand, strictKind, plain, kindAt, isKind, second, pair, upToMillion, awaitNumber, awaitSide, Kinded, expression, isSide, atEnd, closed, lineForm, clockAt}
+use Rattle.grammar.specs.Grammar.{Parsed, noForm, parsed, andThen, onlyIf, Placed, Formed, token, clockOf, operand, strictKind, plain, kindAt, isKind, second, pair, upToMillion, awaitNumber, awaitSide, Kinded, expression, isSide, atEnd, closed, lineForm, formIn, clockAt}
 use Rattle.grammar.specs.Names.{numberIn}
-use Rattle.table.specs.Reader.{anyWord, fails}
+use Rattle.table.specs.Reader.{anyWord, badNumber}
 use Rattle.grammar.specs.Tokens.{is, Spelled, shapeOf, lookUp, formWords, tokenOf}
-use Rattle.grammar.specs.declared.Builder.{Builder}
-use Rattle.table.specs.declared.WordCheck.the-variants.{BadNumber}
 use Rattle.grammar.specs.declared.Names.{Names}
 use Rattle.grammar.specs.declared.Token.the-variants.{End, Other, Name, Digits, ClockDef, Await, Strictly}
 use Rattle.table.proofs.NamesKnown.{nameClocks}
@@ -191,14 +189,23 @@ module _ (t : List ℕ) where
   any-rest p [] e = refl
   any-rest p (w ∷ ws) e = or-r (p w ws) (anyWord p ws) e
 
-  await-passes : (ws : List Span) → is Await (token t ws) ≡ true → anyWord (fails BadNumber t) ws ≡ false → eqb (awaitNumber (bytesOf t (front t (rest ws)))) 0 ≡ false
+  await-passes : (ws : List Span) → is Await (token t ws) ≡ true → anyWord (badNumber t) ws ≡ false → eqb (awaitNumber (bytesOf t (front t (rest ws)))) 0 ≡ false
   unfolding anyWord front rest
   await-passes [] a e = absurd (false≢true (ap (is Await) (sym end-token) ∙ a))
-  await-passes (w ∷ ws) a e = go (is Await (tokenOf (bytesOf t w))) a (or-l (fails BadNumber t w ws) (anyWord (fails BadNumber t) ws) e)
+  await-passes (w ∷ ws) a e = go (is Await (tokenOf (bytesOf t w))) a (or-l (badNumber t w ws) (anyWord (badNumber t) ws) e)
     where
       go : (x : Bool) → x ≡ true → (x && eqb (awaitNumber (bytesOf t (front t ws))) 0) ≡ false → eqb (awaitNumber (bytesOf t (front t ws))) 0 ≡ false
       go true a e = e
       go false a e = absurd (false≢true a)
+
+  -- a kind is no await
+  kind-plain : (us : List Span) → notAwait (kindAt t us .kind) ≡ true
+  unfolding kindAt
+  kind-plain us = go (is Strictly (token t us))
+    where
+      go : (x : Bool) → notAwait (cond {A = Kinded} x (record { kind = strictKind (plain (token t (rest us))); after = rest (rest us) }) (record { kind = plain (token t us); after = rest us }) .kind) ≡ true
+      go true = strict-plain (plain (token t (rest us)))
+      go false = token-plain (bytesOf t (front t us))
 
   module _ (ns : Names) where
     name-first : (ws : List Span) → is Name (token t ws) ≡ true → nameClocks t ns ws ≡ clockOf (numberIn t ns (bytesOf t (front t ws))) ∷ nameClocks t ns (rest ws)
@@ -215,15 +222,7 @@ module _ (t : List ℕ) where
         go true = skip ks (clockOf (numberIn t ns (bytesOf t w))) (nameClocks t ns ws) h
         go false = h
 
-    -- a kind is no await, and names nothing
-    kind-plain : (us : List Span) → notAwait (kindAt t us .kind) ≡ true
-    unfolding kindAt
-    kind-plain us = go (is Strictly (token t us))
-      where
-        go : (x : Bool) → notAwait (cond {A = Kinded} x (record { kind = strictKind (plain (token t (rest us))); after = rest (rest us) }) (record { kind = plain (token t us); after = rest us }) .kind) ≡ true
-        go true = strict-plain (plain (token t (rest us)))
-        go false = token-plain (bytesOf t (front t us))
-
+    -- and names nothing
     skip-kind : (ks : List ℕ) (us : List Span) → Within ks (nameClocks t ns (kindAt t us .after)) → Within ks (nameClocks t ns us)
     unfolding kindAt
     skip-kind ks us h = go (is Strictly (token t us)) h
@@ -233,66 +232,66 @@ module _ (t : List ℕ) where
         go false h = skip-first ks us h
 
 -- ---- the readers
-module _ (t : List ℕ) (b : Builder) where
+module _ (t : List ℕ) (ns : Names) where
   abbrev clocks : List Span → List ℕ
-  clocks ws = nameClocks t (b .table .names) ws
+  clocks ws = nameClocks t ns ws
 
-  record Taken (ws : List Span) (a : Placed) (us : List Span) : Type 0 where
-    builder : a .builder ≡ b
+  record Taken (ws : List Span) (a : Placed Names) (us : List Span) : Type 0 where
+    left : a .left ≡ ns
     first : clocks ws ≡ a .clock ∷ clocks us
 
   -- a side of a constraint, and a line
-  record Side (ws : List Span) (f : Formed) : Type 0 where
-    builder : f .builder ≡ b
+  record Side (ws : List Span) (f : Formed Names) : Type 0 where
+    left : f .left ≡ ns
     named : Within (operandsOf (f .constraint .kind) (f .constraint .first) (f .constraint .second)) (clocks ws)
-    fits : anyWord (fails BadNumber t) ws ≡ false → parameterFits (counterOf (f .constraint .kind)) (f .constraint .parameter) ≡ true
+    fits : anyWord (badNumber t) ws ≡ false → parameterFits (counterOf (f .constraint .kind)) (f .constraint .parameter) ≡ true
 
-  pub record Line (ws : List Span) (f : Formed) : Type 0 where
-    pub builder : f .builder ≡ b
+  pub record Line (ws : List Span) (f : Formed Names) : Type 0 where
+    pub left : f .left ≡ ns
     pub named : Within (clocksOf (f .constraint)) (clocks ws)
-    pub fits : anyWord (fails BadNumber t) ws ≡ false → parameterFits (counterOf (f .constraint .kind)) (f .constraint .parameter) ≡ true
+    pub fits : anyWord (badNumber t) ws ≡ false → parameterFits (counterOf (f .constraint .kind)) (f .constraint .parameter) ≡ true
 
-  one-operand : (c : Builder) → c ≡ b → (ws : List Span) → Each (Taken ws) (operand t c ws)
+  one-operand : (ms : Names) → ms ≡ ns → (ws : List Span) → Each (Taken ws) (operand t ms ws)
   unfolding operand
-  one-operand c e ws = each-only (Taken ws) (is Name (token t ws)) _ (λ n. record { builder = e; first = name-first t (b .table .names) ws n ∙ rw e })
+  one-operand ms e ws = each-only (Taken ws) (is Name (token t ws)) _ (λ n. record { left = e; first = name-first t ns ws n ∙ rw e })
 
-  pair-side : (ws : List Span) → Each (λ f us. Side ws f) (pair t (operand t) b ws)
+  pair-side : (ws : List Span) → Each (λ f us. Side ws f) (pair t (operand t) ns ws)
   unfolding pair second
   pair-side ws =
-      each-then (Taken ws) (λ f us. Side ws f) (operand t b ws) _ (one-operand b refl ws) (λ a us h.
+      each-then (Taken ws) (λ f us. Side ws f) (operand t ns ws) _ (one-operand ns refl ws) (λ a us h.
       each-only (λ f us. Side ws f) (isKind (kindAt t us .kind)) _ (λ e.
-      each-then (Taken (kindAt t us .after)) (λ f us. Side ws f) (operand t (a .builder) (kindAt t us .after)) _ (one-operand (a .builder) (h .builder) (kindAt t us .after)) (λ c vs g. record {
-        builder = g .builder;
+      each-then (Taken (kindAt t us .after)) (λ f us. Side ws f) (operand t (a .left) (kindAt t us .after)) _ (one-operand (a .left) (h .left) (kindAt t us .after)) (λ c vs g. record {
+        left = g .left;
         named =
-            rw (pair-operands (kindAt t us .kind) (a .clock) (c .clock) e (kind-plain t (b .table .names) us), h .first)
-            (inl (refl, skip-kind t (b .table .names) (c .clock ∷ []) us (rw (g .first) (inl (refl, tt)))));
-        fits = λ p. pair-fits (kindAt t us .kind) (record { 0 = 0 }) (kind-plain t (b .table .names) us);
+            rw (pair-operands (kindAt t us .kind) (a .clock) (c .clock) e (kind-plain t us), h .first)
+            (inl (refl, skip-kind t ns (c .clock ∷ []) us (rw (g .first) (inl (refl, tt)))));
+        fits = λ p. pair-fits (kindAt t us .kind) (record { 0 = 0 }) (kind-plain t us);
       })))
 
-  await-side : (ws : List Span) → is Await (token t ws) ≡ true → Each (λ f us. Side ws f) (awaitSide t (operand t) b (rest ws))
+  await-side : (ws : List Span) → is Await (token t ws) ≡ true → Each (λ f us. Side ws f) (awaitSide t (operand t) ns (rest ws))
   unfolding awaitSide
   await-side ws w =
       each-only (λ f us. Side ws f) (is Digits (token t (rest ws))) _ (λ d.
-      each-then (Taken (rest (rest ws))) (λ f us. Side ws f) (operand t b (rest (rest ws))) _ (one-operand b refl (rest (rest ws))) (λ a us h. record {
-        builder = h .builder;
-        named = skip-first t (b .table .names) (a .clock ∷ []) ws (skip-first t (b .table .names) (a .clock ∷ []) (rest ws) (rw (h .first) (inl (refl, tt))));
+      each-then (Taken (rest (rest ws))) (λ f us. Side ws f) (operand t ns (rest (rest ws))) _ (one-operand ns refl (rest (rest ws))) (λ a us h. record {
+        left = h .left;
+        named = skip-first t ns (a .clock ∷ []) ws (skip-first t ns (a .clock ∷ []) (rest ws) (rw (h .first) (inl (refl, tt))));
         fits = λ p. number-fits (number (bytesOf t (front t (rest ws)))) (await-passes t ws w p);
       }))
 
-  expression-side : (ws : List Span) → Each (λ f us. Side ws f) (expression t (operand t) b ws)
+  expression-side : (ws : List Span) → Each (λ f us. Side ws f) (expression t (operand t) ns ws)
   unfolding expression
   expression-side ws = go (is Await (token t ws)) refl
     where
-      go : (x : Bool) → is Await (token t ws) ≡ x → Each (λ f us. Side ws f) (cond x (awaitSide t (operand t) b (rest ws)) (pair t (operand t) b ws))
+      go : (x : Bool) → is Await (token t ws) ≡ x → Each (λ f us. Side ws f) (cond x (awaitSide t (operand t) ns (rest ws)) (pair t (operand t) ns ws))
       go true e = await-side ws e
       go false e = pair-side ws
 
   -- the clock that a line defines stands in front of its operands
-  line-end : (d : Bool) (c : ℕ) (ws : List Span) (f : Formed) (us : List Span) → f .builder ≡ b
+  line-end : (d : Bool) (c : ℕ) (ws : List Span) (f : Formed Names) (us : List Span) → f .left ≡ ns
       → (isSide d (f .constraint .kind) ≡ true → Within (definedBy (f .constraint .kind) c ++ operandsOf (f .constraint .kind) (f .constraint .first) (f .constraint .second)) (clocks ws))
-      → (anyWord (fails BadNumber t) ws ≡ false → parameterFits (counterOf (f .constraint .kind)) (f .constraint .parameter) ≡ true) → Each (λ g vs. Line ws g) (atEnd d c f us)
+      → (anyWord (badNumber t) ws ≡ false → parameterFits (counterOf (f .constraint .kind)) (f .constraint .parameter) ≡ true) → Each (λ g vs. Line ws g) (atEnd d c f us)
   unfolding atEnd
-  line-end d c ws f [] q n p = each-only (λ g vs. Line ws g) (isSide d (f .constraint .kind)) _ (λ e. record { builder = q; named = n e; fits = p })
+  line-end d c ws f [] q n p = each-only (λ g vs. Line ws g) (isSide d (f .constraint .kind)) _ (λ e. record { left = q; named = n e; fits = p })
   line-end d c ws f (u ∷ us) q n p = tt
 
   defined-first : (k : Kind) (c : ℕ) (ls ks : List ℕ) → Within ks ls → isSide true k ≡ true → Within (definedBy k c ++ ks) (c ∷ ls)
@@ -305,24 +304,24 @@ module _ (t : List ℕ) (b : Builder) where
   nothing-first (Relates k) c ls ks w e = w
   nothing-first (Defines k) c ls ks w e = absurd (false≢true e)
 
-  pub line-made : (ws : List Span) → Each (λ f us. Line ws f) (lineForm t (operand t) b ws)
+  pub line-made : (ws : List Span) → Each (λ f us. Line ws f) (formIn t ns ws)
   unfolding lineForm
   line-made ws = go (is Name (token t ws)) (is ClockDef (token t (rest ws))) refl
     where
-      relation : Each (λ f us. Line ws f) (closed false 0 (pair t (operand t) b ws))
+      relation : Each (λ f us. Line ws f) (closed false 0 (expression t (operand t) ns ws))
       relation =
-          each-then (λ f us. Side ws f) (λ f us. Line ws f) (pair t (operand t) b ws) (atEnd false 0) (pair-side ws) (λ f us h.
-          line-end false 0 ws f us (h .builder) (nothing-first (f .constraint .kind) 0 (clocks ws) (operandsOf (f .constraint .kind) (f .constraint .first) (f .constraint .second)) (h .named)) (h .fits))
+          each-then (λ f us. Side ws f) (λ f us. Line ws f) (expression t (operand t) ns ws) (atEnd false 0) (expression-side ws) (λ f us h.
+          line-end false 0 ws f us (h .left) (nothing-first (f .constraint .kind) 0 (clocks ws) (operandsOf (f .constraint .kind) (f .constraint .first) (f .constraint .second)) (h .named)) (h .fits))
 
-      definition : is Name (token t ws) ≡ true → Each (λ f us. Line ws f) (closed true (clockAt t b (front t ws)) (expression t (operand t) b (rest (rest ws))))
+      definition : is Name (token t ws) ≡ true → Each (λ f us. Line ws f) (closed true (clockAt t ns (front t ws)) (expression t (operand t) ns (rest (rest ws))))
       definition n =
-          each-then (λ f us. Side (rest (rest ws)) f) (λ f us. Line ws f) (expression t (operand t) b (rest (rest ws))) (atEnd true (clockAt t b (front t ws))) (expression-side (rest (rest ws))) (λ f us h.
-          line-end true (clockAt t b (front t ws)) ws f us (h .builder)
-          (λ e. rw (name-first t (b .table .names) ws n) (defined-first (f .constraint .kind) (clockAt t b (front t ws)) (clocks (rest ws)) (operandsOf (f .constraint .kind) (f .constraint .first) (f .constraint .second)) (skip-first t (b .table .names) (operandsOf (f .constraint .kind) (f .constraint .first) (f .constraint .second)) (rest ws) (h .named)) e))
-          (λ p. h .fits (any-rest t (fails BadNumber t) (rest ws) (any-rest t (fails BadNumber t) ws p))))
+          each-then (λ f us. Side (rest (rest ws)) f) (λ f us. Line ws f) (expression t (operand t) ns (rest (rest ws))) (atEnd true (clockAt t ns (front t ws))) (expression-side (rest (rest ws))) (λ f us h.
+          line-end true (clockAt t ns (front t ws)) ws f us (h .left)
+          (λ e. rw (name-first t ns ws n) (defined-first (f .constraint .kind) (clockAt t ns (front t ws)) (clocks (rest ws)) (operandsOf (f .constraint .kind) (f .constraint .first) (f .constraint .second)) (skip-first t ns (operandsOf (f .constraint .kind) (f .constraint .first) (f .constraint .second)) (rest ws) (h .named)) e))
+          (λ p. h .fits (any-rest t (badNumber t) (rest ws) (any-rest t (badNumber t) ws p))))
 
       go : (x y : Bool) → is Name (token t ws) ≡ x
-          → Each (λ f us. Line ws f) (cond (x && y) (closed true (clockAt t b (front t ws)) (expression t (operand t) b (rest (rest ws)))) (closed false 0 (pair t (operand t) b ws)))
+          → Each (λ f us. Line ws f) (cond (x && y) (closed true (clockAt t ns (front t ws)) (expression t (operand t) ns (rest (rest ws)))) (closed false 0 (expression t (operand t) ns ws)))
       go true true e = definition e
       go true false e = relation
       go false y e = relation

@@ -6,8 +6,9 @@ use mathlib.Core.List.{List, [], _∷_, _++_}
 use Prim.Native.Nat.{ℕ, _+_, _≤_, _<_}
 use native.Mathlib.Omega.{arith}
 use borrow.Author.Tests.{leb-false, le-leb}
-use lib.Dec.{leb}
+use lib.Dec.{leb, ltb}
 use lib.ListN.{length, take, drop, length-append}
+use Rattle.limit.specs.Checked.{Checked, passed, stopped, refuseIf, andThen}
 use Rattle.limit.specs.declared.Limit.{Limit}
 use Rattle.limit.specs.declared.Limit.the-variants.{TableLength, LineByte, NameLength, AwaitNumber, ClockTwice, DefinedTwice, TableClocks, TableConstraints}
 use Rattle.constraint.specs.Lists.{slots, firstUnfit, brokenRecord, brokenWord, startWords}
@@ -23,12 +24,13 @@ use Rattle.text.specs.Bytes.{inClass, allBytes}
 use Rattle.text.specs.Split.{piecesAt}
 use Rattle.text.specs.declared.Class.the-variants.{Newline, Printable}
 use Rattle.text.specs.declared.Span.{Span}
-use Rattle.grammar.specs.Grammar.{Parsed, noForm, parsed, Formed, lineWords, operand, lineForm}
+use Rattle.grammar.specs.Building.{start, onItsLine, withConstraint}
+use Rattle.grammar.specs.Grammar.{Parsed, noForm, parsed, Formed, lineWords, formIn}
 use Rattle.grammar.specs.Names.{withWords}
-use Rattle.table.specs.Reader.{anyWord, fails, Step, next, stopped, refuseIf, onItsLine, withConstraint, addLine, formStep, withNames, unlessBlank, lineStep, read, Told, refusedTable, start, onLine, andThen, readLines, readTable, Passes, EveryTablePasses}
+use Rattle.table.specs.Reader.{anyWord, longName, badNumber, twice, addLine, formStep, filledStep, blank, lineStep, read, tellOf, readLines, mostBytes, readTable, Passes, EveryTablePasses}
 use Rattle.grammar.specs.declared.Builder.{Builder}
-use Rattle.table.specs.declared.WordCheck.the-variants.{LongName, BadNumber, Twice}
 use Rattle.grammar.specs.declared.Names.{Names}
+use Rattle.grammar.specs.declared.Table.{Table}
 use Rattle.table.proofs.FormClocks.{within-below, within-distinct, Each, Line, line-made}
 use Rattle.table.proofs.NamesKnown.{AllKnown, Grown, all-words, nameClocks, names-below, names-distinct}
 
@@ -46,79 +48,72 @@ record Good (b : Builder) : Type 0 where
 good-start : Good start
 good-start = record { listed = []; records = refl; count = refl; most = omega arith; spans = refl; room = omega arith; fit = refl; defined = bits-zero }
 
-good-line : (n : ℕ) (b : Builder) → Good b → Good (onLine n b)
-good-line n b g = record { listed = g .listed; records = g .records; count = g .count; most = g .most; spans = g .spans; room = g .room; fit = g .fit; defined = g .defined }
+-- with the names of a line
+module _ (t : List ℕ) (b : Builder) (g : Good b) (ws : List Span) where
+  abbrev names : Names
+  names = withWords t (b .table .names) ws
 
-good-names : (t : List ℕ) (b : Builder) (ws : List Span) → Good b → Good (withNames t b ws)
-good-names t b ws g =
-    let w : Grown t (b .table .names) ws (withWords t (b .table .names) ws) = all-words t (b .table .names) (g .spans) (g .room) ws in
-    record {
-      listed = g .listed;
-      records = g .records;
-      count = g .count;
-      most = g .most;
-      spans = w .spans;
-      room = w .room;
-      fit = clocks-more (b .table .names .count) (withWords t (b .table .names) ws .count) (w .more) none 1 (g .listed) (g .fit);
-      defined = g .defined;
-    }
+  grown : Grown t (b .table .names) ws names
+  grown = all-words t (b .table .names) (g .spans) (g .room) ws
+
+  fit-names : firstUnfit (names .count) none 1 (g .listed) ≡ Nowhere
+  fit-names = clocks-more (b .table .names .count) (names .count) (grown .more) none 1 (g .listed) (g .fit)
 
 -- ---- a line
-abbrev AfterStep : Step → Type 0
-AfterStep (next b) = Good b
+abbrev AfterStep : Checked Builder → Type 0
+AfterStep (passed b) = Good b
 AfterStep (stopped l p) = Unit {0}
 
-unless-refused : (x : Bool) (l : Limit) (b : Builder) (s : Step) → (x ≡ false → AfterStep s) → AfterStep (refuseIf x l b s)
-unfolding refuseIf
-unless-refused true l b s f = tt
-unless-refused false l b s f = f refl
+unless-refused : (x : Bool) (l : Limit) (n : ℕ) (s : Checked Builder) → (x ≡ false → AfterStep s) → AfterStep (refuseIf x l n s)
+unless-refused true l n s f = tt
+unless-refused false l n s f = f refl
 
-one-constraint : (b : Builder) (r : Constraint) → Good b → wellFormed (b .table .names .count) r ≡ true → any (bits (b .defined)) (definedOf r) ≡ false → leb 64 (b .table .count) ≡ false → Good (withConstraint b r)
-one-constraint b r g w p16 p18 =
-    let h : b .table .count < 64 = leb-false 64 (b .table .count) p18 in
-    let e : b .table .count ≡ length (g .listed) = g .count in
-    let more : List Constraint = g .listed ++ onItsLine (b .line) r ∷ [] in
-    let l : length more ≡ length (g .listed) + 1 = length-append (g .listed) (onItsLine (b .line) r ∷ []) in
-    rw p18 (record {
-      listed = more;
-      records = rw (g .records, g .count) (slots-more 64 (g .listed) (onItsLine (b .line) r) (omega arith));
-      count = omega arith;
-      most = omega arith;
-      spans = g .spans;
-      room = g .room;
-      fit = fits-more (b .table .names .count) none 1 (g .listed) (onItsLine (b .line) r) (g .fit) (omega arith) w (rw (← g .defined) p16);
-      defined = defined-bits (b .table .names .count) (b .defined) r (g .room) w ∙ ap (addingAll (definedOf r)) (g .defined) ∙ sym (defined-more none (g .listed) (onItsLine (b .line) r));
-    })
+module _ (t : List ℕ) (n : ℕ) (b : Builder) (g : Good b) where
+  one-constraint : (ws : List Span) (r : Constraint) → wellFormed (names t b g ws .count) r ≡ true → any (bits (b .defined)) (definedOf r) ≡ false → leb 64 (b .table .count) ≡ false → Good (withConstraint b (names t b g ws) n r)
+  one-constraint ws r w p16 p18 =
+      let h : b .table .count < 64 = leb-false 64 (b .table .count) p18 in
+      let e : b .table .count ≡ length (g .listed) = g .count in
+      let more : List Constraint = g .listed ++ onItsLine n r ∷ [] in
+      let l : length more ≡ length (g .listed) + 1 = length-append (g .listed) (onItsLine n r ∷ []) in
+      rw p18 (record {
+        listed = more;
+        records = rw (g .records, g .count) (slots-more 64 (g .listed) (onItsLine n r) (omega arith));
+        count = omega arith;
+        most = omega arith;
+        spans = grown t b g ws .spans;
+        room = grown t b g ws .room;
+        fit = fits-more (names t b g ws .count) none 1 (g .listed) (onItsLine n r) (fit-names t b g ws) (omega arith) w (rw (← g .defined) p16);
+        defined = defined-bits (names t b g ws .count) (b .defined) r (grown t b g ws .room) w ∙ ap (addingAll (definedOf r)) (g .defined) ∙ sym (defined-more none (g .listed) (onItsLine n r));
+      })
 
-line-added : (b : Builder) (r : Constraint) → Good b → (b .table .names .over ≡ false → wellFormed (b .table .names .count) r ≡ true) → AfterStep (addLine b r)
-unfolding addLine
-line-added b r g w =
-    unless-refused (any (bits (b .defined)) (definedOf r)) DefinedTwice b _ (λ p16.
-    unless-refused (b .table .names .over) TableClocks b _ (λ p17.
-    unless-refused (leb 64 (b .table .count)) TableConstraints b _ (λ p18. one-constraint b r g (w p17) p16 p18)))
+  line-added : (ws : List Span) (ms : Names) (r : Constraint) → ms ≡ names t b g ws → (names t b g ws .over ≡ false → wellFormed (names t b g ws .count) r ≡ true) → AfterStep (addLine n b ms r)
+  unfolding addLine
+  line-added ws ms r e w =
+      rw e
+      (unless-refused (any (bits (b .defined)) (definedOf r)) DefinedTwice n _ (λ p16.
+      unless-refused (names t b g ws .over) TableClocks n _ (λ p17.
+      unless-refused (leb 64 (b .table .count)) TableConstraints n _ (λ p18. one-constraint ws r (w p17) p16 p18))))
 
-module _ (t : List ℕ) (b : Builder) (g : Good b) where
-  form-step : (ws : List Span) (p : Parsed Formed) → Each (λ f us. Line t (withNames t b ws) ws f) p → AfterStep (formStep t b ws p)
+  form-step : (ws : List Span) (p : Parsed (Formed Names)) → Each (λ f us. Line t (names t b g ws) ws f) p → AfterStep (formStep t n b ws p)
   unfolding formStep
   form-step ws noForm h = tt
   form-step ws (parsed f us) h =
-      unless-refused (anyWord (fails LongName t) ws) NameLength b _ (λ p13.
-      unless-refused (anyWord (fails BadNumber t) ws) AwaitNumber b _ (λ p14.
-      unless-refused (anyWord (fails Twice t) ws) ClockTwice b _ (λ p15.
-      rw (h .builder) (line-added (withNames t b ws) (f .constraint) (good-names t b ws g) (λ p17.
-      let ms : Names = withWords t (b .table .names) ws in
-      let known : AllKnown t ms ws = all-words t (b .table .names) (g .spans) (g .room) ws .known p17 in
+      unless-refused (anyWord (longName t) ws) NameLength n _ (λ p13.
+      unless-refused (anyWord (badNumber t) ws) AwaitNumber n _ (λ p14.
+      unless-refused (anyWord (twice t) ws) ClockTwice n _ (λ p15.
+      line-added ws (f .left) (f .constraint) (h .left) (λ p17.
+      let ms : Names = names t b g ws in
+      let known : AllKnown t ms ws = grown t b g ws .known p17 in
       let below = within-below (ms .count) (clocksOf (f .constraint)) (nameClocks t ms ws) (h .named) (names-below t ms ws known) in
       let differ = within-distinct (clocksOf (f .constraint)) (nameClocks t ms ws) (h .named) (names-distinct t ms ws known p15) in
-      rw (below, differ, h .fits p14))))))
+      rw (below, differ, h .fits p14)))))
 
-  words-step : (ws : List Span) → AfterStep (unlessBlank t b ws)
-  unfolding unlessBlank
-  words-step [] = g
-  words-step (w ∷ ws) = form-step (w ∷ ws) (lineForm t (operand t) (withNames t b (w ∷ ws)) (w ∷ ws)) (line-made t (withNames t b (w ∷ ws)) (w ∷ ws))
-
-  line-step : (from : ℕ) → AfterStep (lineStep t b from)
-  line-step from = unless-refused (not (allBytes (inClass Printable) (drop from t))) LineByte b _ (λ p11. words-step (lineWords t from))
+  line-step : (from : ℕ) → AfterStep (lineStep t n b from)
+  line-step from = go (blank t from)
+    where
+      go : (x : Bool) → AfterStep (cond x (passed b) (filledStep t n b from))
+      go true = g
+      go false = unless-refused (not (allBytes (inClass Printable) (drop from t))) LineByte n _ (λ p11. form-step (lineWords t from) (formIn t (names t b g (lineWords t from)) (lineWords t from)) (line-made t (names t b g (lineWords t from)) (lineWords t from)))
 
 -- ---- the table
 good-passes : (b : Builder) → Good b → Passes (b .table)
@@ -134,23 +129,31 @@ good-passes b g =
       unused = g .records ∙ ap (slots 64) (sym e);
     }
 
-lines-pass : (t : List ℕ) (n : ℕ) (b : Builder) (ls : List Span) → Good b → readLines t n b ls .said ≡ read → Passes (readLines t n b ls .table)
+-- what reading the lines gives passes
+abbrev AfterLines : Checked Table → Type 0
+AfterLines (passed b) = Passes b
+AfterLines (stopped l p) = Unit {0}
+
+lines-pass : (t : List ℕ) (n : ℕ) (b : Builder) (ls : List Span) → Good b → AfterLines (readLines t n b ls)
 unfolding readLines andThen
-lines-pass t n b [] g e = good-passes b g
-lines-pass t n b (l ∷ ls) g e = go (lineStep (take (l .end) t) (onLine n b) (l .start)) (line-step (take (l .end) t) (onLine n b) (good-line n b g) (l .start)) e (λ c. lines-pass t (n + 1) c ls)
+lines-pass t n b [] g = good-passes b g
+lines-pass t n b (l ∷ ls) g = go (lineStep (take (l .end) t) n b (l .start)) (line-step (take (l .end) t) n b g (l .start)) (λ c. lines-pass t (n + 1) c ls)
   where
-    go : (s : Step) → AfterStep s → andThen s (λ c. readLines t (n + 1) c ls) .said ≡ read
-        → ((c : Builder) → Good c → readLines t (n + 1) c ls .said ≡ read → Passes (readLines t (n + 1) c ls .table)) → Passes (andThen s (λ c. readLines t (n + 1) c ls) .table)
-    go (next c) g e ih = ih c g e
-    go (stopped l p) g e ih = let z : _≡_ {A = ℕ} 0 1 = cc in absurd (omega arith)
+    go : (s : Checked Builder) → AfterStep s → ((c : Builder) → Good c → AfterLines (readLines t (n + 1) c ls)) → AfterLines (andThen s (λ c. readLines t (n + 1) c ls))
+    go (passed c) h ih = ih c h
+    go (stopped k p) h ih = tt
+
+told-passes : (c : Checked Table) → AfterLines c → tellOf c .said ≡ read → Passes (tellOf c .table)
+told-passes (passed b) p e = p
+told-passes (stopped l n) p e = let z : _≡_ {A = ℕ} 0 1 = cc in absurd (omega arith)
 
 pub every-table-passes : EveryTablePasses
 unfolding readTable
-every-table-passes t = go (leb (length t) 4_096)
+every-table-passes t = told-passes (refuseIf (ltb mostBytes (length t)) TableLength 0 lines) (go (ltb mostBytes (length t)))
   where
-    answer : Bool → Told
-    answer x = cond x (readLines t 1 start (piecesAt (inClass Newline) t 0)) (refusedTable (record { limit = TableLength; place = record { 0 = 0 } }))
+    lines : Checked Table
+    lines = readLines t 1 start (piecesAt (inClass Newline) t 0)
 
-    go : (x : Bool) → answer x .said ≡ read → Passes (answer x .table)
-    go true e = lines-pass t 1 start (piecesAt (inClass Newline) t 0) good-start e
-    go false e = let z : _≡_ {A = ℕ} 0 1 = cc in absurd (omega arith)
+    go : (x : Bool) → AfterLines (refuseIf x TableLength 0 lines)
+    go true = tt
+    go false = lines-pass t 1 start (piecesAt (inClass Newline) t 0) good-start

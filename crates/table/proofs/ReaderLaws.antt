@@ -6,125 +6,137 @@ use mathlib.Core.List.{List, [], _∷_}
 use Prim.Native.Nat.{ℕ, _+_, _≤_, _<_}
 use native.Mathlib.Decide.{decLt}
 use native.Mathlib.Omega.{arith}
-use borrow.Author.Tests.{le-leb, lt-leb}
+use borrow.Author.Tests.{eqb-true, le-leb, lt-leb, le-ltb, lt-ltb}
 use lib.Dec.{leb}
 use lib.ListN.{length, take, drop}
-use Rattle.text.specs.Bytes.{inClass, passes, allBytes}
-use Rattle.text.specs.Split.{span, piecesAt, runEnd, NextWord}
-use Rattle.text.specs.declared.Class.the-variants.{Newline, Space, Printable}
-use Rattle.text.specs.declared.Span.{Span}
-use Rattle.text.proofs.Runs.{is-last, is-word, words-over, piece-more, piece-last}
+use Rattle.limit.specs.Checked.{Checked, passed, stopped, andThen}
 use Rattle.limit.specs.declared.Limit.{Limit}
 use Rattle.limit.specs.declared.Limit.the-variants.{TableLength, LineByte, LineForm, NameLength, AwaitNumber, ClockTwice, DefinedTwice, TableClocks, TableConstraints}
-use Rattle.limit.specs.declared.Refusal.{Refusal}
+use Rattle.limit.proofs.CheckLaws.{refuses, allows, stays-stopped, goes-to}
 use Rattle.constraint.specs.Meaning.{definedOf}
 use Rattle.constraint.specs.Ticks.{any, bits}
 use Rattle.constraint.specs.declared.Constraint.{Constraint}
+use Rattle.text.specs.Bytes.{inClass, passes, allBytes}
+use Rattle.text.specs.Split.{span, piecesAt, runEnd}
+use Rattle.text.specs.declared.Class.the-variants.{Newline, Printable}
+use Rattle.text.specs.declared.Span.{Span}
+use Rattle.text.proofs.Runs.{piece-more, piece-last}
+use Rattle.grammar.specs.Building.{start, withConstraint, finish}
 use Rattle.grammar.specs.Grammar.{Parsed, noForm, parsed, Formed, lineWords}
-use Rattle.table.specs.Reader.{anyWord, fails, Step, next, stopped, stop, refuseIf, withConstraint, addLine, formStep, wordsStep, unlessBlank, lineStep, step, Told, read, refusedTable, start, onLine, andThen, readLines, readTable}
+use Rattle.grammar.specs.Tokens.{tag, is}
 use Rattle.grammar.specs.declared.Builder.{Builder}
-use Rattle.table.specs.declared.WordCheck.the-variants.{LongName, BadNumber, Twice}
-use Rattle.limit.specs.declared.Check.the-variants.{Passed, Refused}
+use Rattle.grammar.specs.declared.Names.{Names}
+use Rattle.grammar.specs.declared.Table.{Table}
+use Rattle.grammar.specs.declared.Token.{Token}
+use Rattle.grammar.specs.declared.Token.the-variants.{Name, Await}
+use Rattle.table.specs.Answers.{flawsOf, wordFlaws, either}
+use Rattle.table.specs.Reader.{anyWord, longName, badNumber, twice, addLine, formStep, wordsStep, filledStep, blank, lineStep, tellOf, readLines, mostBytes, readTable}
+use Rattle.table.specs.declared.Flaws.{Flaws}
 
 -- ---- a test of some word
-module _ (t : List ℕ) (p : Span → List Span → Bool) where
-  any-nil : (ws : List Span) → ws ≡ [] → anyWord p ws ≡ false
+module _ (p : Span → List Span → Bool) (ws : List Span) where
+  pub any-done : ws ≡ [] → anyWord p ws ≡ false
   unfolding anyWord
-  any-nil ws e = rw e
+  any-done e = rw e
 
-  any-cons : (ws : List Span) (w : Span) (us : List Span) → ws ≡ w ∷ us → anyWord p ws ≡ (p w us || anyWord p us)
-  unfolding anyWord
-  any-cons ws w us e = rw e
+  module _ (w : Span) (us : List Span) (e : ws ≡ w ∷ us) where
+    any-turn : anyWord p ws ≡ (p w us || anyWord p us)
+    unfolding anyWord
+    any-turn = rw e
 
-  pub any-over : (at : ℕ) → length t ≤ at → anyWord p (lineWords t at) ≡ false
-  any-over at h = any-nil _ (words-over t (inClass Space) at h)
+    pub any-stop : p w us ≡ true → anyWord p ws ≡ true
+    any-stop q = any-turn ∙ rw q
 
-  module _ (at : ℕ) (w : Span) (n : NextWord (inClass Space) t at w) where
-    pub any-last : w .end ≤ w .start → anyWord p (lineWords t at) ≡ false
-    any-last h = any-nil _ (is-last t (inClass Space) at w n h)
+    pub any-on : p w us ≡ false → anyWord p ws ≡ anyWord p us
+    any-on q = any-turn ∙ rw q
 
-    module _ (h : w .start < w .end) where
-      turn : anyWord p (lineWords t at) ≡ (p w (lineWords t (w .end)) || anyWord p (lineWords t (w .end)))
-      turn = any-cons _ w _ (is-word t (inClass Space) at w n h)
+-- ---- the three tests in one walk
+or-none : (x : Bool) → (x || false) ≡ x
+or-none true = refl
+or-none false = refl
 
-      pub any-here : p w (lineWords t (w .end)) ≡ true → anyWord p (lineWords t at) ≡ true
-      any-here e = turn ∙ rw e
+or-assoc : (x y z : Bool) → (x || (y || z)) ≡ ((x || y) || z)
+or-assoc true y z = refl
+or-assoc false y z = refl
 
-      pub any-on : p w (lineWords t (w .end)) ≡ false → anyWord p (lineWords t at) ≡ anyWord p (lineWords t (w .end))
-      any-on e = turn ∙ rw e
+either-assoc : (a b c : Flaws) → either a (either b c) ≡ either (either a b) c
+either-assoc a b c = λ i. record {
+  long = or-assoc (a .long) (b .long) (c .long) i;
+  bad = or-assoc (a .bad) (b .bad) (c .bad) i;
+  twice = or-assoc (a .twice) (b .twice) (c .twice) i;
+}
+
+module _ (t : List ℕ) (f : Flaws) (ws : List Span) where
+  pub flaws-done : ws ≡ [] → either f (flawsOf t ws) ≡ f
+  flaws-done e = rw (any-done (longName t) ws e, any-done (badNumber t) ws e, any-done (twice t) ws e, or-none (f .long), or-none (f .bad), or-none (f .twice))
+
+  module _ (w : Span) (us : List Span) (e : ws ≡ w ∷ us) where
+    flaws-turn : flawsOf t ws ≡ either (wordFlaws t w us) (flawsOf t us)
+    flaws-turn = rw (any-turn (longName t) ws w us e, any-turn (badNumber t) ws w us e, any-turn (twice t) ws w us e)
+
+    pub flaws-on : either f (flawsOf t ws) ≡ either (either f (wordFlaws t w us)) (flawsOf t us)
+    flaws-on = ap (either f) flaws-turn ∙ either-assoc f (wordFlaws t w us) (flawsOf t us)
+
+-- a name is no await
+pub name-no-await : (k : Token) → is Name k ≡ true → is Await k ≡ false
+name-no-await k e = rw (← eqb-true 2 (tag k) e)
 
 -- ---- the checks of a line
-pub step-read : (b : Builder) → step Passed b ≡ next b
-unfolding step
-step-read b = refl
-
-pub step-refused : (r : Refusal) (b : Builder) → step (Refused r) b ≡ stopped (r .limit) (r .place)
-unfolding step
-step-refused r b = refl
-
-refuse : (x : Bool) (l : Limit) (b : Builder) (s : Step) → x ≡ true → refuseIf x l b s ≡ stop l b
-unfolding refuseIf
-refuse x l b s e = rw e
-
-pass : (x : Bool) (l : Limit) (b : Builder) (s : Step) → x ≡ false → refuseIf x l b s ≡ s
-unfolding refuseIf
-pass x l b s e = rw e
-
-module _ (b : Builder) (r : Constraint) where
-  pub refused-16 : any (bits (b .defined)) (definedOf r) ≡ true → addLine b r ≡ stop DefinedTwice b
+module _ (n : ℕ) (b : Builder) (ns : Names) (r : Constraint) where
+  pub refused-16 : any (bits (b .defined)) (definedOf r) ≡ true → addLine n b ns r ≡ stopped DefinedTwice n
   unfolding addLine
-  refused-16 e = refuse _ _ _ _ e
+  refused-16 e = refuses _ _ _ _ e
 
   module _ (p16 : any (bits (b .defined)) (definedOf r) ≡ false) where
-    pub refused-17 : b .table .names .over ≡ true → addLine b r ≡ stop TableClocks b
+    pub refused-17 : ns .over ≡ true → addLine n b ns r ≡ stopped TableClocks n
     unfolding addLine
-    refused-17 e = pass _ _ _ _ p16 ∙ refuse _ _ _ _ e
+    refused-17 e = allows _ _ _ _ p16 ∙ refuses _ _ _ _ e
 
-    module _ (p17 : b .table .names .over ≡ false) where
-      pub refused-18 : leb 64 (b .table .count) ≡ true → addLine b r ≡ stop TableConstraints b
+    module _ (p17 : ns .over ≡ false) where
+      pub refused-18 : leb 64 (b .table .count) ≡ true → addLine n b ns r ≡ stopped TableConstraints n
       unfolding addLine
-      refused-18 e = pass _ _ _ _ p16 ∙ (pass _ _ _ _ p17 ∙ refuse _ _ _ _ e)
+      refused-18 e = allows _ _ _ _ p16 ∙ (allows _ _ _ _ p17 ∙ refuses _ _ _ _ e)
 
-      pub added : leb 64 (b .table .count) ≡ false → addLine b r ≡ next (withConstraint b r)
+      pub added : leb 64 (b .table .count) ≡ false → addLine n b ns r ≡ passed (withConstraint b ns n r)
       unfolding addLine
-      added e = pass _ _ _ _ p16 ∙ (pass _ _ _ _ p17 ∙ pass _ _ _ _ e)
+      added e = allows _ _ _ _ p16 ∙ (allows _ _ _ _ p17 ∙ allows _ _ _ _ e)
 
-module _ (t : List ℕ) (b : Builder) (ws : List Span) (p : Parsed Formed) where
-  pub refused-12 : p ≡ noForm → formStep t b ws p ≡ stop LineForm b
+module _ (t : List ℕ) (n : ℕ) (b : Builder) (ws : List Span) (p : Parsed (Formed Names)) where
+  pub refused-12 : p ≡ noForm → formStep t n b ws p ≡ stopped LineForm n
   unfolding formStep
   refused-12 e = rw e
 
-  module _ (f : Formed) (us : List Span) (e : p ≡ parsed f us) where
-    pub refused-13 : anyWord (fails LongName t) ws ≡ true → formStep t b ws p ≡ stop NameLength b
+  module _ (f : Formed Names) (us : List Span) (e : p ≡ parsed f us) where
+    pub refused-13 : anyWord (longName t) ws ≡ true → formStep t n b ws p ≡ stopped NameLength n
     unfolding formStep
-    refused-13 x = rw e (refuse _ _ _ _ x)
+    refused-13 x = rw e (refuses _ _ _ _ x)
 
-    module _ (p13 : anyWord (fails LongName t) ws ≡ false) where
-      pub refused-14 : anyWord (fails BadNumber t) ws ≡ true → formStep t b ws p ≡ stop AwaitNumber b
+    module _ (p13 : anyWord (longName t) ws ≡ false) where
+      pub refused-14 : anyWord (badNumber t) ws ≡ true → formStep t n b ws p ≡ stopped AwaitNumber n
       unfolding formStep
-      refused-14 x = rw e (pass _ _ _ _ p13 ∙ refuse _ _ _ _ x)
+      refused-14 x = rw e (allows _ _ _ _ p13 ∙ refuses _ _ _ _ x)
 
-      module _ (p14 : anyWord (fails BadNumber t) ws ≡ false) where
-        pub refused-15 : anyWord (fails Twice t) ws ≡ true → formStep t b ws p ≡ stop ClockTwice b
+      module _ (p14 : anyWord (badNumber t) ws ≡ false) where
+        pub refused-15 : anyWord (twice t) ws ≡ true → formStep t n b ws p ≡ stopped ClockTwice n
         unfolding formStep
-        refused-15 x = rw e (pass _ _ _ _ p13 ∙ (pass _ _ _ _ p14 ∙ refuse _ _ _ _ x))
+        refused-15 x = rw e (allows _ _ _ _ p13 ∙ (allows _ _ _ _ p14 ∙ refuses _ _ _ _ x))
 
-        pub to-add : anyWord (fails Twice t) ws ≡ false → formStep t b ws p ≡ addLine (f .builder) (f .constraint)
+        pub to-add : anyWord (twice t) ws ≡ false → formStep t n b ws p ≡ addLine n b (f .left) (f .constraint)
         unfolding formStep
-        to-add x = rw e (pass _ _ _ _ p13 ∙ (pass _ _ _ _ p14 ∙ pass _ _ _ _ x))
+        to-add x = rw e (allows _ _ _ _ p13 ∙ (allows _ _ _ _ p14 ∙ allows _ _ _ _ x))
 
-module _ (t : List ℕ) (b : Builder) (from : ℕ) where
-  pub refused-11 : allBytes (inClass Printable) (drop from t) ≡ false → lineStep t b from ≡ stop LineByte b
-  refused-11 e = refuse _ _ _ _ (ap not e)
+module _ (t : List ℕ) (n : ℕ) (b : Builder) (from : ℕ) where
+  pub refused-11 : allBytes (inClass Printable) (drop from t) ≡ false → filledStep t n b from ≡ stopped LineByte n
+  refused-11 e = refuses _ _ _ _ (ap not e)
 
-  module _ (p11 : allBytes (inClass Printable) (drop from t) ≡ true) where
-    pub blank : lineWords t from ≡ [] → lineStep t b from ≡ next b
-    unfolding unlessBlank
-    blank e = pass _ _ _ _ (ap not p11) ∙ rw e
+  pub to-words : allBytes (inClass Printable) (drop from t) ≡ true → filledStep t n b from ≡ wordsStep t n b (lineWords t from)
+  to-words e = allows _ _ _ _ (ap not e)
 
-    pub to-words : (w : Span) (ws : List Span) → lineWords t from ≡ w ∷ ws → lineStep t b from ≡ wordsStep t b (lineWords t from)
-    unfolding unlessBlank
-    to-words w ws e = pass _ _ _ _ (ap not p11) ∙ rw e
+  pub line-blank : blank t from ≡ true → lineStep t n b from ≡ passed b
+  line-blank e = rw e
+
+  pub line-filled : blank t from ≡ false → lineStep t n b from ≡ filledStep t n b from
+  line-filled e = rw e
 
 -- ---- the lines of a table
 -- those from an offset on; past the text's end there is none
@@ -132,7 +144,7 @@ pub linesFrom : List ℕ → ℕ → List Span
 linesFrom t at = cond (leb at (length t)) (piecesAt (inClass Newline) t at) []
 
 module _ (t : List ℕ) where
-  abbrev pub LinesFrom : ℕ → ℕ → Builder → Told
+  abbrev pub LinesFrom : ℕ → ℕ → Builder → Checked Table
   LinesFrom at n b = readLines t n b (linesFrom t at)
 
   one-line : (at e : ℕ) → at ≤ length t → e ≡ runEnd (passes Newline false) at (drop at t) → linesFrom t at ≡ span at e ∷ linesFrom t (e + 1)
@@ -143,23 +155,29 @@ module _ (t : List ℕ) where
       go (yes k) = rw (le-leb (e + 1) (length t) (omega arith)) (piece-more (inClass Newline) t at e q k)
       go (no k) = rw (lt-leb (e + 1) (length t) (omega arith)) (piece-last (inClass Newline) t at e q (omega arith))
 
-  pub lines-done : (at n : ℕ) (b : Builder) → length t < at → LinesFrom at n b ≡ record { said = read; table = b .table }
+  pub lines-done : (at n : ℕ) (b : Builder) → length t < at → LinesFrom at n b ≡ passed (finish b)
   unfolding linesFrom readLines
   lines-done at n b h = rw (lt-leb at (length t) h)
 
   module _ (at e n : ℕ) (b : Builder) (h : at ≤ length t) (q : e ≡ runEnd (passes Newline false) at (drop at t)) where
-    pub lines-stop : (r : Refusal) → lineStep (take e t) (onLine n b) at ≡ stopped (r .limit) (r .place) → LinesFrom at n b ≡ refusedTable r
-    unfolding readLines andThen
-    lines-stop r x = rw (one-line at e h q, x)
+    one-turn : LinesFrom at n b ≡ andThen (lineStep (take e t) n b at) (λ c. LinesFrom (e + 1) (n + 1) c)
+    unfolding readLines
+    one-turn = rw (one-line at e h q)
 
-    pub lines-on : (c : Builder) → lineStep (take e t) (onLine n b) at ≡ next c → LinesFrom at n b ≡ LinesFrom (e + 1) (n + 1) c
-    unfolding readLines andThen
-    lines-on c x = rw (one-line at e h q, x)
+    pub lines-stop : (l : Limit) (p : ℕ) → lineStep (take e t) n b at ≡ stopped l p → LinesFrom at n b ≡ stopped l p
+    lines-stop l p x = one-turn ∙ stays-stopped _ _ l p x
 
-  pub refused-10 : 4_096 < length t → readTable t ≡ refusedTable (record { limit = TableLength; place = record { 0 = 0 } })
+    pub lines-on : (c : Builder) → lineStep (take e t) n b at ≡ passed c → LinesFrom at n b ≡ LinesFrom (e + 1) (n + 1) c
+    lines-on c x = one-turn ∙ goes-to _ _ c x
+
+  pub refused-10 : mostBytes < length t → readTable t ≡ tellOf (stopped TableLength 0)
   unfolding readTable
-  refused-10 h = rw (lt-leb (length t) 4_096 h)
+  refused-10 h = ap tellOf (refuses _ _ _ _ (lt-ltb mostBytes (length t) h))
 
-  pub table-lines : length t ≤ 4_096 → LinesFrom 0 1 start ≡ readTable t
-  unfolding readTable linesFrom
-  table-lines h = rw (le-leb (length t) 4_096 h, le-leb 0 (length t) (omega arith))
+  all-lines : linesFrom t 0 ≡ piecesAt (inClass Newline) t 0
+  unfolding linesFrom
+  all-lines = rw (le-leb 0 (length t) (omega arith))
+
+  pub table-lines : length t ≤ mostBytes → readTable t ≡ tellOf (LinesFrom 0 1 start)
+  unfolding readTable
+  table-lines h = rw (all-lines, le-ltb mostBytes (length t) h)

@@ -14,11 +14,11 @@ pub struct TableRead {
     pub table: Table,
 }
 
-// What is asked of each word of a line that has a form.
-pub enum WordCheck {
-    LongName,
-    BadNumber,
-    Twice,
+// Which of the checks 13, 14 and 15 some words fail: a name over 16 bytes, an await number outside, a clock named twice.
+pub struct Flaws {
+    pub long: bool,
+    pub bad: bool,
+    pub twice: bool,
 }
 
 // What a line does: the first refusal, or the table with it.

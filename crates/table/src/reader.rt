@@ -1,17 +1,21 @@
 // Lines in their order, each with its checks in theirs, and the whole table.
+use super::Flaws;
 use super::LineRead;
 use super::TableRead;
-use super::WordCheck;
 use constraint::Constraint;
 use grammar::Builder;
 use grammar::Names;
-use grammar::Table;
 use grammar::Token;
+use grammar::WordRead;
 use grammar::await_number;
-use grammar::is_name;
+use grammar::empty_table;
+use grammar::finish;
+use grammar::is;
 use grammar::line_form;
-use grammar::token_at;
+use grammar::start;
+use grammar::with_constraint;
 use grammar::with_words;
+use grammar::word_at;
 use limit::Check;
 use limit::Limit;
 use limit::Place;
@@ -19,8 +23,11 @@ use limit::Refusal;
 use text::Class;
 use text::Span;
 ghost use mathlib.Core.Path.{_≡_};
+ghost use Rattle.limit.specs.Checked.{stopped, checked};
 ghost use Rattle.text.specs.Split.{bytesOf};
 ghost use Rattle.grammar.specs.Grammar.{lineWords};
+ghost use Rattle.grammar.specs.Tokens.{tokenOf};
+ghost use Rattle.table.specs.Answers as f;
 ghost use Rattle.table.specs.Reader as d;
 
 // Whether a word stands again among those from an offset on.
@@ -42,207 +49,140 @@ fn stands_again(line: &[u8], word: Span, from: usize) -> bool
     false
 }
 
-// A name over 16 bytes.
-fn long_name(line: &[u8], word: Span) -> bool
-    ensures { λ r. ⌜ r ≡ d.longName (now (line .entry)) word ⌝ }
+// Which checks a word fails, by itself or with the words behind it.
+fn word_flaws(line: &[u8], word: WordRead) -> Flaws
+    requires { ⌜ word .token ≡ tokenOf (bytesOf (now line) (word .span)) ⌝ }
+    ensures { λ r. ⌜ r ≡ f.wordFlaws (now (line .entry)) (word .span) (lineWords (now (line .entry)) (word .span .end)) ⌝ }
 {
-    let bytes = text::part(line, word);
-    is_name(token_at(line, word)) & (16 < bytes.len())
-}
-
-// `await` with a number outside 1 to 1,000,000 behind it.
-fn bad_number(line: &[u8], word: Span) -> bool
-    ensures { λ r. ⌜ r ≡ d.badNumber (now (line .entry)) word (lineWords (now (line .entry)) (word .end)) ⌝ }
-{
-    let token = token_at(line, word);
-    let Token::Await = token else {
-        return false;
-    };
-    let number = text::next_word(Class::Space, line, word.end);
-    await_number(text::part(line, number)) == 0
-}
-
-// A name that stands again behind it.
-fn named_twice(line: &[u8], word: Span) -> bool
-    ensures { λ r. ⌜ r ≡ d.twice (now (line .entry)) word (lineWords (now (line .entry)) (word .end)) ⌝ }
-{
-    is_name(token_at(line, word)) & stands_again(line, word, word.end)
-}
-
-// Whether a word fails a check.
-fn fails(check: WordCheck, line: &[u8], word: Span) -> bool
-    ensures { λ r. ⌜ r ≡ d.fails check (now (line .entry)) word (lineWords (now (line .entry)) (word .end)) ⌝ }
-{
-    match check {
-        WordCheck::LongName => long_name(line, word),
-        WordCheck::BadNumber => bad_number(line, word),
-        WordCheck::Twice => named_twice(line, word),
+    let span = word.span;
+    if is(Token::Name, word) {
+        let bytes = text::part(line, span);
+        return Flaws {
+            long: 16 < bytes.len(),
+            bad: false,
+            twice: stands_again(line, span, span.end),
+        };
+    }
+    if is(Token::Await, word) {
+        let number = text::next_word(Class::Space, line, span.end);
+        return Flaws {
+            long: false,
+            bad: await_number(text::part(line, number)) == 0,
+            twice: false,
+        };
+    }
+    Flaws {
+        long: false,
+        bad: false,
+        twice: false,
     }
 }
 
-// Whether some word from an offset on fails a check.
-fn any_word(check: WordCheck, line: &[u8], from: usize) -> bool
-    ensures { λ r. ⌜ r ≡ d.anyWord (d.fails check (now (line .entry))) (lineWords (now (line .entry)) from) ⌝ }
+// What either of two fails.
+fn either(one: Flaws, other: Flaws) -> Flaws
+    ensures { λ r. ⌜ r ≡ f.either one other ⌝ }
 {
+    Flaws {
+        long: one.long | other.long,
+        bad: one.bad | other.bad,
+        twice: one.twice | other.twice,
+    }
+}
+
+// Which checks the words from an offset on fail.
+fn flaws(line: &[u8], from: usize) -> Flaws
+    ensures { λ r. ⌜ r ≡ f.flawsOf (now (line .entry)) (lineWords (now (line .entry)) from) ⌝ }
+{
+    let mut found = Flaws {
+        long: false,
+        bad: false,
+        twice: false,
+    };
     let mut at = from;
     while at < line.len() {
-        let word = text::next_word(Class::Space, line, at);
-        if word.end <= word.start {
-            return false;
+        let word = word_at(line, at);
+        if word.span.end <= word.span.start {
+            return found;
         }
-        if fails(check, line, word) {
-            return true;
-        }
-        at = word.end;
+        found = either(found, word_flaws(line, word));
+        at = word.span.end;
     }
-    false
+    found
 }
 
 // The answer that a line breaks a limit.
-fn refuse(builder: Builder, limit: Limit) -> LineRead
-    ensures { λ r. ⌜ d.stepOf r ≡ d.stop limit builder ⌝ }
+fn refuse(builder: Builder, limit: Limit, place: Place) -> LineRead
+    ensures { λ r. ⌜ checked (r .outcome) (r .builder) ≡ stopped limit (place .0) ⌝ }
 {
-    let place = builder.line;
     LineRead {
         outcome: Check::Refused(Refusal { limit, place }),
         builder,
     }
 }
 
-// The table with one constraint more, on the line that is read.
-fn with_constraint(builder: Builder, constraint: Constraint) -> Builder
-    ensures { λ r. ⌜ r ≡ d.withConstraint builder constraint ⌝ }
-{
-    let table = builder.table;
-    let count = table.count;
-    if 64 <= count {
-        return builder;
-    }
-    let line = builder.line;
-    let mut own = constraint;
-    own.line = line;
-    let mut more = table;
-    more.records[count] = own;
-    more.count = count + 1;
-    Builder {
-        table: more,
-        defined: constraint::with_defined(builder.defined, own),
-        line,
-    }
-}
-
 // Checks 16, 17 and 18 of a line's constraint.
-fn add_line(builder: Builder, constraint: Constraint) -> LineRead
-    ensures { λ r. ⌜ d.stepOf r ≡ d.addLine builder constraint ⌝ }
+fn add_line(builder: Builder, names: Names, place: Place, constraint: Constraint) -> LineRead
+    ensures { λ r. ⌜ checked (r .outcome) (r .builder) ≡ d.addLine (place .0) builder names constraint ⌝ }
 {
-    let table = builder.table;
-    let names = table.names;
     if constraint::defines_again(builder.defined, constraint) {
-        return refuse(builder, Limit::DefinedTwice);
+        return refuse(builder, Limit::DefinedTwice, place);
     }
     if names.over {
-        return refuse(builder, Limit::TableClocks);
+        return refuse(builder, Limit::TableClocks, place);
     }
+    let table = builder.table;
     if 64 <= table.count {
-        return refuse(builder, Limit::TableConstraints);
+        return refuse(builder, Limit::TableConstraints, place);
     }
     LineRead {
         outcome: Check::Passed,
-        builder: with_constraint(builder, constraint),
+        builder: with_constraint(builder, names, place, constraint),
     }
 }
 
-// The table with the names of the words from an offset on.
-fn with_names(line: &[u8], builder: Builder, from: usize) -> Builder
-    ensures { λ r. ⌜ r ≡ d.withNames (now (line .entry)) builder (lineWords (now (line .entry)) from) ⌝ }
+// Checks 12 to 18 of a line's words.
+fn read_words(line: &[u8], builder: Builder, place: Place, from: usize) -> LineRead
+    ensures { λ r. ⌜ checked (r .outcome) (r .builder) ≡ d.wordsStep (now (line .entry)) (place .0) builder (lineWords (now (line .entry)) from) ⌝ }
 {
     let table = builder.table;
-    let records = table.records;
-    let names = table.names;
-    let place = builder.line;
-    Builder {
-        table: Table {
-            records,
-            count: table.count,
-            names: with_words(line, names, from),
-        },
-        defined: builder.defined,
-        line: place,
-    }
-}
-
-// Checks 12 to 18 of a line that has words.
-fn read_words(line: &[u8], builder: Builder, from: usize) -> LineRead
-    ensures { λ r. ⌜ d.stepOf r ≡ d.wordsStep (now (line .entry)) builder (lineWords (now (line .entry)) from) ⌝ }
-{
-    let form = line_form(line, with_names(line, builder, from), from);
+    let before = table.names;
+    let names = with_words(line, before, from);
+    let form = line_form(line, names, from);
     if !form.fits {
-        return refuse(builder, Limit::LineForm);
+        return refuse(builder, Limit::LineForm, place);
     }
-    if any_word(WordCheck::LongName, line, from) {
-        return refuse(builder, Limit::NameLength);
+    let failed = flaws(line, from);
+    if failed.long {
+        return refuse(builder, Limit::NameLength, place);
     }
-    if any_word(WordCheck::BadNumber, line, from) {
-        return refuse(builder, Limit::AwaitNumber);
+    if failed.bad {
+        return refuse(builder, Limit::AwaitNumber, place);
     }
-    if any_word(WordCheck::Twice, line, from) {
-        return refuse(builder, Limit::ClockTwice);
+    if failed.twice {
+        return refuse(builder, Limit::ClockTwice, place);
     }
-    let formed = form.builder;
     let constraint = form.constraint;
-    add_line(formed, constraint)
+    add_line(builder, names, place, constraint)
 }
 
-// A line, from an offset of the text that ends with it.
-fn read_line(line: &[u8], builder: Builder, from: usize) -> LineRead
-    ensures { λ r. ⌜ d.stepOf r ≡ d.lineStep (now (line .entry)) builder from ⌝ }
+// A line that is not blank, from an offset of the text that ends with it.
+fn read_line(line: &[u8], builder: Builder, place: Place, from: usize) -> LineRead
+    ensures { λ r. ⌜ checked (r .outcome) (r .builder) ≡ d.filledStep (now (line .entry)) (place .0) builder from ⌝ }
 {
     if !text::all_from(Class::Printable, line, from) {
-        return refuse(builder, Limit::LineByte);
+        return refuse(builder, Limit::LineByte, place);
     }
-    let word = text::next_word(Class::Space, line, from);
-    if word.start < word.end {
-        return read_words(line, builder, from);
-    }
-    LineRead {
-        outcome: Check::Passed,
-        builder,
-    }
-}
-
-// A table with no constraint and no name.
-fn empty_table() -> Table
-    ensures { λ r. ⌜ r ≡ d.emptyTable ⌝ }
-{
-    Table {
-        records: [constraint::empty(); 64],
-        count: 0,
-        names: Names {
-            spans: [Span { start: 0, end: 0 }; 32],
-            count: 0,
-            over: false,
-        },
-    }
+    read_words(line, builder, place, from)
 }
 
 // The answer that a table breaks a limit.
 fn refused(refusal: Refusal) -> TableRead
-    ensures { λ r. ⌜ d.told r ≡ d.refusedTable refusal ⌝ }
+    ensures { λ r. ⌜ d.told r ≡ d.tellOf (stopped (refusal .limit) (refusal .place .0)) ⌝ }
 {
     TableRead {
         outcome: Check::Refused(refusal),
         table: empty_table(),
     }
-}
-
-// The builder on a line.
-fn on_line(builder: Builder, line: usize) -> Builder
-    ensures { λ r. ⌜ r ≡ d.onLine line builder ⌝ }
-{
-    let place = Place(line);
-    let mut moved = builder;
-    moved.line = place;
-    moved
 }
 
 // The table that a text says, or the first refusal.
@@ -255,16 +195,17 @@ pub fn read_table(text: &[u8]) -> TableRead
             place: Place(0),
         });
     }
-    let mut builder = Builder {
-        table: empty_table(),
-        defined: 0,
-        line: Place(0),
-    };
+    let mut builder = start();
     let mut line = 1;
     let mut at = 0;
     while at <= text.len() {
         let end = text::run_end(Class::Newline, false, text, at);
-        let step = read_line(&text[..end], on_line(builder, line), at);
+        if text::all_from(Class::Space, &text[..end], at) {
+            line += 1;
+            at = end + 1;
+            continue;
+        }
+        let step = read_line(&text[..end], builder, Place(line), at);
         let outcome = step.outcome;
         if let Check::Refused(refusal) = outcome {
             return refused(refusal);
@@ -273,9 +214,8 @@ pub fn read_table(text: &[u8]) -> TableRead
         line += 1;
         at = end + 1;
     }
-    let table = builder.table;
     TableRead {
         outcome: Check::Passed,
-        table,
+        table: finish(builder),
     }
 }

@@ -1,11 +1,14 @@
 -- A text is a list of bytes. It is split at separators into pieces, each a span of offsets: the lines of a table are the pieces
--- between newlines, and the words of a line the pieces between spaces that have a byte. Assumes nothing.
+-- between newlines, and the words of a line the pieces between spaces that have a byte, where a parenthesis is a piece by itself.
+-- Assumes nothing.
 use mathlib.Core.Path.{_≡_}
 use mathlib.Core.Bool.{Bool, cond}
 use mathlib.Core.List.{List, [], _∷_}
 use Prim.Native.Nat.{ℕ, _+_, _-_, _<_}
 use lib.Dec.{ltb}
 use lib.ListN.{length, take, drop}
+use Rattle.text.specs.Bytes.{inClass, ends}
+use Rattle.text.specs.declared.Class.{Class}
 use Rattle.text.specs.declared.Span.{Span}
 
 abbrev pub span : ℕ → ℕ → Span
@@ -30,12 +33,21 @@ unfoldable pub filled : List Span → List Span
 filled [] = []
 filled (p ∷ ps) = cond (ltb (p .start) (p .end)) (p ∷ filled ps) (filled ps)
 
--- the pieces and the words of a text from an offset on
+-- the pieces of a text from an offset on
 abbrev pub piecesAt : (ℕ → Bool) → List ℕ → ℕ → List Span
 piecesAt sep t at = pieces sep at (drop at t)
 
-abbrev pub wordsAt : (ℕ → Bool) → List ℕ → ℕ → List Span
-wordsAt sep t at = filled (piecesAt sep t at)
+-- the same pieces, where any other byte that passes end ends one too, and is a piece by itself
+unfoldable pub tokens : (sep end : ℕ → Bool) → ℕ → List ℕ → List Span
+tokens sep end at [] = span at at ∷ []
+tokens sep end at (b ∷ bs) =
+    cond (sep b) (span at at ∷ tokens sep end (at + 1) bs)
+    (cond (end b) (span at at ∷ span at (at + 1) ∷ tokens sep end (at + 1) bs)
+    (grown at (tokens sep end (at + 1) bs)))
+
+-- the words of a text from an offset on, parted by the bytes of a class
+abbrev pub wordsAt : Class → List ℕ → ℕ → List Span
+wordsAt k t at = filled (tokens (inClass k) (inClass (ends k)) at (drop at t))
 
 -- the first word, the empty one at the text's end where there is none; and the words after it
 unfoldable pub front : List ℕ → List Span → Span
@@ -52,7 +64,7 @@ runEnd p at [] = at
 runEnd p at (b ∷ bs) = cond (p b) (runEnd p (at + 1) bs) at
 
 -- r is the first word from an offset on, and those after it are the words from its end on, which is further on
-pub record NextWord (sep : ℕ → Bool) (t : List ℕ) (at : ℕ) (r : Span) : Type 0 where
-  pub found : r ≡ front t (wordsAt sep t at)
-  pub after : wordsAt sep t (r .end) ≡ rest (wordsAt sep t at)
+pub record NextWord (k : Class) (t : List ℕ) (at : ℕ) (r : Span) : Type 0 where
+  pub found : r ≡ front t (wordsAt k t at)
+  pub after : wordsAt k t (r .end) ≡ rest (wordsAt k t at)
   pub forward : at < length t → at < r .end

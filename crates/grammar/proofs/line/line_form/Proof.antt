@@ -1,53 +1,47 @@
 -- `line_form` meets its contract. Assumes nothing.
-use mathlib.Core.Path.{sym, _∙_}
+use mathlib.Core.Path.{_≡_, sym, ap₂, _∙_}
+use mathlib.Core.Bool.{Bool, _&&_}
 use denote.Ref.{now}
-use Rattle.grammar.specs.Grammar.{lineWords, operand}
-use Rattle.grammar.proofs.GrammarLaws.{token-read, token-second, after-second, line-defines, line-relates}
+use Rattle.text.specs.Split.{rest}
+use Rattle.grammar.specs.Grammar.{lineWords, token, clockAt, operand}
+use Rattle.grammar.specs.Tokens.{is}
+use Rattle.grammar.specs.declared.Token.the-variants.{Name, ClockDef}
+use Rattle.grammar.proofs.GrammarLaws.{word-token, second-token, after-second, line-defines, line-relates}
 use borrow.Author.Needs.{needs}
 use Rattle.grammar.proofs.line.line_form.Statement.{statement}
 use Rattle.grammar.proofs.line.line_form.Tie as tie
 
+-- what the two tests come to
+defines : (i : tie.After-is2) (x : Bool) → (i .before .is .result && i .is2 .result) ≡ x → (let s = i .before .before .before .before .before .args in let t = now (s .line) in
+    (is Name (token t (lineWords t (s .at))) && is ClockDef (token t (rest (lineWords t (s .at))))) ≡ x)
+defines i x e =
+    let v = i .before .before in
+    let w = v .before .word-at in
+    ap₂ _&&_ (word-token _ _ (w .result) (w .ensures) Name _ (sym (i .before .is .ensures))) (second-token _ _ (w .result) (w .ensures) (v .word-at2 .result) (v .word-at2 .ensures) ClockDef _ (sym (i .is2 .ensures))) ∙ e
+
 returns : tie.Need-returns
 returns c =
-    let d = c .before .before .before in
-    let k = d .before in
-    let t2 = k .before in
-    let n = t2 .before in
-    let t1 = n .before in
-    let v = t1 .before in
-    let w = v .before in
-    let s = w .before .before .args in
+    let x = c .before .before .before in
+    let d = x .before in
+    let v = d .before .before .before in
+    let w = v .before .word-at in
+    let s = v .before .before .before .args in
     let t = now (s .line) in
-    let e = token-read t (s .at) (w .next-word .result) (w .next-word .ensures) (t1 .token-at .result) (t1 .token-at .ensures) in
-    let f = token-second t (s .at) (w .next-word .result) (w .next-word .ensures) (v .next-word2 .result) (v .next-word2 .ensures) (t2 .token-at2 .result) (t2 .token-at2 .ensures) in
-    let a = after-second t (s .at) (w .next-word .result) (w .next-word .ensures) (v .next-word2 .result) (v .next-word2 .ensures) in
-    c .closed .ensures
-    ∙ rw (c .before .clock-at .ensures, c .before .before .expression .ensures, a, w .next-word .ensures .found)
-    (sym (line-defines t (operand t) (s .builder) (lineWords t (s .at)) (rw (e, f, ← n .is-name .ensures, ← k .is-clock-def .ensures) (d .if1 .taken))))
+    c .closed .ensures (s .names)
+    ∙ rw (c .before .clock-at .ensures, x .expression .ensures, after-second t (s .at) (w .result) (w .ensures) (v .word-at2 .result) (v .word-at2 .ensures), w .ensures .next .found)
+    (sym (line-defines t (operand t) (s .names) (lineWords t (s .at)) (clockAt t (s .names)) (defines (d .before) _ (d .if1 .taken))))
 
 returns-2 : tie.Need-returns-2
 returns-2 c =
     let d = c .before .before in
-    let k = d .before in
-    let t2 = k .before in
-    let n = t2 .before in
-    let t1 = n .before in
-    let v = t1 .before in
-    let w = v .before in
-    let s = w .before .before .args in
+    let s = d .before .before .before .before .before .before .args in
     let t = now (s .line) in
-    let e = token-read t (s .at) (w .next-word .result) (w .next-word .ensures) (t1 .token-at .result) (t1 .token-at .ensures) in
-    let f = token-second t (s .at) (w .next-word .result) (w .next-word .ensures) (v .next-word2 .result) (v .next-word2 .ensures) (t2 .token-at2 .result) (t2 .token-at2 .ensures) in
-    c .closed2 .ensures
-    ∙ rw (c .before .pair .ensures)
-    (sym (line-relates t (operand t) (s .builder) (lineWords t (s .at)) (rw (e, f, ← n .is-name .ensures, ← k .is-clock-def .ensures) (d .if1 .left))))
+    c .closed2 .ensures (s .names) ∙ rw (c .before .expression2 .ensures) (sym (line-relates t (operand t) (s .names) (lineWords t (s .at)) (clockAt t (s .names)) (defines (d .before) _ (d .if1 .left))))
 
 pub line-form-spec : {M : Type 1} → statement M
 line-form-spec =
     tie.close
     (tie.spec
-    (λ c κs. search needs)
-    (λ c κs. search needs)
     (λ c κs. search needs)
     (λ c κs. search needs)
     (λ c κs. search needs)

@@ -7,7 +7,6 @@ use Prim.Native.Nat.{_≤_, _-_}
 use native.Mathlib.Omega.{arith}
 use denote.Ref.{now}
 use lib.ListN.{length}
-use Rattle.text.specs.Bytes.{inClass}
 use Rattle.text.specs.Split.{bytesOf}
 use Rattle.text.specs.declared.Class.the-variants.{Parting}
 use Rattle.text.proofs.Runs.{is-word, is-last, words-over}
@@ -34,13 +33,13 @@ some : (c : tie.Else1 Inv-loop μ-loop) →
     let l = c .before .before .before .before in
     let r = now (l .before .before .before .before .before .args .recording) in
     words r (l .loop .at) ≡ w ∷ words r (w .end)
-some c = let n = c .before .before .next-word in is-word _ (inClass Parting) _ (n .result) (n .ensures) (c .if1 .left)
+some c = let n = c .before .before .next-word in is-word _ Parting _ (n .result) (n .ensures) (c .if1 .left)
 
 returns : tie.Need-returns Inv-loop μ-loop
 returns c =
     let n = c .before .before .next-word in
     record {
-      left = sym (body-done _ _ _ _ (is-last _ (inClass Parting) _ (n .result) (n .ensures) (c .if1 .taken))) ∙ c .before .before .before .before .loop .inv .1;
+      left = sym (body-done _ _ _ _ (is-last _ Parting _ (n .result) (n .ensures) (c .if1 .taken))) ∙ c .before .before .before .before .loop .inv .1;
       forward = tt;
     }
 
@@ -99,7 +98,7 @@ loop-again c =
 returns-4 : tie.Need-returns-4 Inv-loop μ-loop
 returns-4 c =
     record {
-      left = sym (body-done _ _ _ _ (words-over _ (inClass Parting) _ (c .loop-test .left))) ∙ c .before .loop .inv .1;
+      left = sym (body-done _ _ _ _ (words-over _ Parting _ (c .loop-test .left))) ∙ c .before .loop .inv .1;
       forward = tt;
     }
 

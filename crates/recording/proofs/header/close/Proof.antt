@@ -3,7 +3,6 @@ use mathlib.Core.Path.{_≡_, refl, sym, _∙_}
 use mathlib.Core.Bool.{true}
 use borrow.Author.Tests.{not-true, not-false}
 use denote.Ref.{now}
-use Rattle.text.specs.Bytes.{inClass}
 use Rattle.text.specs.Split.{bytesOf}
 use Rattle.text.specs.declared.Class.the-variants.{Parting}
 use Rattle.text.proofs.Runs.{is-word, is-last}
@@ -21,7 +20,7 @@ returns : tie.Need-returns
 returns c =
     let w = c .before .before .before .next-word in
     let f = c .refused .ensures in
-    (stops _ _ _ _ (f .0) ∙ sym (close-cut _ _ _ _ _ (is-last _ (inClass Parting) _ (w .result) (w .ensures) (c .before .if1 .taken))), f .1)
+    (stops _ _ _ _ (f .0) ∙ sym (close-cut _ _ _ _ _ (is-last _ Parting _ (w .result) (w .ensures) (c .before .if1 .taken))), f .1)
 
 returns-2 : tie.Need-returns-2
 returns-2 c =
@@ -29,7 +28,7 @@ returns-2 c =
     let l = c .before .before .before .before in
     let w = l .before .before .next-word in
     let f = c .refused2 .ensures in
-    (stops _ _ _ _ (f .0) ∙ sym (close-other _ _ _ _ _ (w .result) _ (is-word _ (inClass Parting) _ (w .result) (w .ensures) (l .if1 .left)) (rw (c .before .before .before .part .ensures) at (sym (e .ensures) ∙ not-true (e .result) (c .before .if2 .taken)))), f .1)
+    (stops _ _ _ _ (f .0) ∙ sym (close-other _ _ _ _ _ (w .result) _ (is-word _ Parting _ (w .result) (w .ensures) (l .if1 .left)) (rw (c .before .before .before .part .ensures) at (sym (e .ensures) ∙ not-true (e .result) (c .before .if2 .taken)))), f .1)
 
 returns-3 : tie.Need-returns-3
 returns-3 c =
@@ -37,14 +36,14 @@ returns-3 c =
     let l = d .before .before .before .before in
     let w = l .before .before .next-word in
     let f = c .refused3 .ensures in
-    (stops _ _ _ _ (f .0) ∙ sym (close-lacks _ _ _ _ _ (w .result) _ (is-word _ (inClass Parting) _ (w .result) (w .ensures) (l .if1 .left)) (ends (d .before)) (sym (d .all-declared .ensures) ∙ not-true (d .all-declared .result) (c .before .if3 .taken))), f .1)
+    (stops _ _ _ _ (f .0) ∙ sym (close-lacks _ _ _ _ _ (w .result) _ (is-word _ Parting _ (w .result) (w .ensures) (l .if1 .left)) (ends (d .before)) (sym (d .all-declared .ensures) ∙ not-true (d .all-declared .result) (c .before .if3 .taken))), f .1)
 
 returns-4 : tie.Need-returns-4
 returns-4 c =
     let d = c .before in
     let l = d .before .before .before .before in
     let w = l .before .before .next-word in
-    (sym (close-all _ _ _ _ _ (w .result) _ (is-word _ (inClass Parting) _ (w .result) (w .ensures) (l .if1 .left)) (ends (d .before)) (sym (d .all-declared .ensures) ∙ not-false (d .all-declared .result) (c .if3 .left))), refl)
+    (sym (close-all _ _ _ _ _ (w .result) _ (is-word _ Parting _ (w .result) (w .ensures) (l .if1 .left)) (ends (d .before)) (sym (d .all-declared .ensures) ∙ not-false (d .all-declared .result) (c .if3 .left))), refl)
 
 pub close-spec : {M : Type 1} → statement M
 close-spec =

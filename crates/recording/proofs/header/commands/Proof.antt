@@ -6,7 +6,6 @@ use Prim.Native.Nat.{_-_}
 use native.Mathlib.Omega.{arith}
 use denote.Ref.{now}
 use lib.ListN.{length}
-use Rattle.text.specs.Bytes.{inClass}
 use Rattle.text.specs.Split.{bytesOf}
 use Rattle.text.specs.declared.Class.the-variants.{Parting}
 use Rattle.text.proofs.Runs.{is-last, words-over}
@@ -42,7 +41,7 @@ returns c =
     let w = c .before .before .before .next-word in
     let l = c .before .before .before .before .before in
     let f = c .refused .ensures in
-    (stops _ _ _ _ (f .0) ∙ sym (header-done _ _ _ _ _ (is-last _ (inClass Parting) _ (w .result) (w .ensures) (c .before .if1 .taken))) ∙ l .loop .inv .1, rw (f .1) (l .loop .inv .0))
+    (stops _ _ _ _ (f .0) ∙ sym (header-done _ _ _ _ _ (is-last _ Parting _ (w .result) (w .ensures) (c .before .if1 .taken))) ∙ l .loop .inv .1, rw (f .1) (l .loop .inv .0))
 
 loop-less : tie.Need-loop-less Inv-loop μ-loop
 loop-less c =
@@ -102,7 +101,7 @@ returns-5 : tie.Need-returns-5 Inv-loop μ-loop
 returns-5 c =
     let l = c .before .before in
     let f = c .refused3 .ensures in
-    (stops _ _ _ _ (f .0) ∙ sym (header-done _ _ _ _ _ (words-over _ (inClass Parting) _ (c .before .loop-test .left))) ∙ l .loop .inv .1, rw (f .1) (l .loop .inv .0))
+    (stops _ _ _ _ (f .0) ∙ sym (header-done _ _ _ _ _ (words-over _ Parting _ (c .before .loop-test .left))) ∙ l .loop .inv .1, rw (f .1) (l .loop .inv .0))
 
 pub commands-spec : {M : Type 1} → statement M
 commands-spec =

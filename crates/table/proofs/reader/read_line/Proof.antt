@@ -2,10 +2,7 @@
 use mathlib.Core.Path.{sym, _∙_}
 use borrow.Author.Tests.{not-true, not-false}
 use denote.Ref.{now}
-use Rattle.text.specs.Bytes.{inClass}
-use Rattle.text.specs.declared.Class.the-variants.{Space}
-use Rattle.text.proofs.Runs.{is-last, is-word}
-use Rattle.table.proofs.ReaderLaws.{step-read, refused-11, blank, to-words}
+use Rattle.table.proofs.ReaderLaws.{refused-11, to-words}
 use borrow.Author.Needs.{needs}
 use Rattle.table.proofs.reader.read_line.Statement.{statement}
 use Rattle.table.proofs.reader.read_line.Tie as tie
@@ -14,23 +11,13 @@ returns : tie.Need-returns
 returns c =
     let a = c .before .before in
     let s = a .before .before .args in
-    c .refuse .ensures ∙ sym (refused-11 (now (s .line)) (s .builder) (s .from) (sym (a .all-from .ensures) ∙ not-true _ (c .before .if1 .taken)))
+    c .refuse .ensures ∙ sym (refused-11 (now (s .line)) (s .place .0) (s .builder) (s .from) (sym (a .all-from .ensures) ∙ not-true _ (c .before .if1 .taken)))
 
 returns-2 : tie.Need-returns-2
 returns-2 c =
-    let n = c .before .before .before in
-    let a = n .before .before in
+    let a = c .before .before in
     let s = a .before .before .args in
-    let t = now (s .line) in
-    c .read-words .ensures ∙ sym (to-words t (s .builder) (s .from) (sym (a .all-from .ensures) ∙ not-false _ (n .before .if1 .left)) _ _ (is-word t (inClass Space) (s .from) (n .next-word .result) (n .next-word .ensures) (c .before .if2 .taken)))
-
-returns-3 : tie.Need-returns-3
-returns-3 c =
-    let n = c .before .before in
-    let a = n .before .before in
-    let s = a .before .before .args in
-    let t = now (s .line) in
-    step-read _ ∙ sym (blank t (s .builder) (s .from) (sym (a .all-from .ensures) ∙ not-false _ (n .before .if1 .left)) (is-last t (inClass Space) (s .from) (n .next-word .result) (n .next-word .ensures) (c .if2 .left)))
+    c .read-words .ensures ∙ sym (to-words (now (s .line)) (s .place .0) (s .builder) (s .from) (sym (a .all-from .ensures) ∙ not-false _ (c .before .if1 .left)))
 
 pub read-line-spec : {M : Type 1} → statement M
 read-line-spec =
@@ -40,6 +27,4 @@ read-line-spec =
     (λ c κs. search needs)
     returns
     (λ c κs. search needs)
-    (λ c κs. search needs)
-    returns-2
-    returns-3)
+    returns-2)

@@ -1,71 +1,76 @@
 -- `read_words` meets its contract: check by check. Assumes nothing.
-use mathlib.Core.Path.{_≡_, sym, _∙_}
+use mathlib.Core.Path.{_≡_, sym, ap, _∙_}
 use borrow.Author.Tests.{not-true, not-false}
 use denote.Ref.{now}
-use Rattle.grammar.specs.Grammar.{parsed, lineWords, operand, lineForm, formRead}
-use Rattle.table.specs.Reader.{withNames}
+use Rattle.grammar.specs.Answers.{formRead}
+use Rattle.grammar.specs.Grammar.{parsed, lineWords, formIn}
+use Rattle.grammar.specs.Names.{withWords}
 use Rattle.grammar.proofs.GrammarLaws.{form-not, form-is}
+use Rattle.table.specs.Reader.{anyWord, longName, badNumber, twice}
+use Rattle.table.specs.declared.Flaws.{Flaws}
 use Rattle.table.proofs.ReaderLaws.{refused-12, refused-13, refused-14, refused-15, to-add}
 use borrow.Author.Needs.{needs}
 use Rattle.table.proofs.reader.read_words.Statement.{statement}
 use Rattle.table.proofs.reader.read_words.Tie as tie
 
--- what the line's form was read as
-form : (f : tie.After-line-form) → (let s = f .before .before .before .args in let t = now (s .line) in
-    formRead t (f .line-form .result) ≡ lineForm t (operand t) (withNames t (s .builder) (lineWords t (s .from))) (lineWords t (s .from)))
-form f = rw (← f .before .with-names .ensures) (f .line-form .ensures)
+abbrev start : tie.After-line-form → tie.Start
+start f = f .before .before .before .before .before
 
-fits : (e : tie.Else1) → (let f = e .before .before in let s = f .before .before .before .args in let t = now (s .line) in
-    lineForm t (operand t) (withNames t (s .builder) (lineWords t (s .from))) (lineWords t (s .from))
-    ≡ parsed (record { builder = f .line-form .result .builder; constraint = f .line-form .result .constraint }) (lineWords t (f .line-form .result .at)))
-fits e = let f = e .before .before in sym (form f) ∙ form-is (now (f .before .before .before .args .line)) (f .line-form .result) (not-false _ (e .if1 .left))
+-- what the line's form was read as
+form : (f : tie.After-line-form) → (let s = start f .args in let t = now (s .line) in let ns = withWords t (s .builder .table .names) (lineWords t (s .from)) in
+    formRead t ns (f .line-form .result) ≡ formIn t ns (lineWords t (s .from)))
+form f = rw (← f .before .with-words .ensures) (f .line-form .ensures)
+
+fits : (e : tie.Else1) → (let f = e .before .before in let s = start f .args in let t = now (s .line) in let ns = withWords t (s .builder .table .names) (lineWords t (s .from)) in
+    formIn t ns (lineWords t (s .from)) ≡ parsed (record { left = ns; constraint = f .line-form .result .constraint }) (lineWords t (f .line-form .result .at)))
+fits e = let f = e .before .before in sym (form f) ∙ form-is (now (start f .args .line)) _ (f .line-form .result) (not-false _ (e .if1 .left))
+
+-- what the words fail
+module _ (w : tie.After-flaws) where
+  abbrev s : tie.Start
+  s = start (w .before .before .before)
+
+  long-is : w .flaws .result .long ≡ anyWord (longName (now (s .args .line))) (lineWords (now (s .args .line)) (s .args .from))
+  long-is = ap (λ (x : Flaws). x .long) (w .flaws .ensures)
+
+  bad-is : w .flaws .result .bad ≡ anyWord (badNumber (now (s .args .line))) (lineWords (now (s .args .line)) (s .args .from))
+  bad-is = ap (λ (x : Flaws). x .bad) (w .flaws .ensures)
+
+  twice-is : w .flaws .result .twice ≡ anyWord (twice (now (s .args .line))) (lineWords (now (s .args .line)) (s .args .from))
+  twice-is = ap (λ (x : Flaws). x .twice) (w .flaws .ensures)
 
 returns : tie.Need-returns
 returns c =
     let f = c .before .before .before in
-    let s = f .before .before .before .args in
-    let t = now (s .line) in
-    c .refuse .ensures ∙ sym (refused-12 t (s .builder) (lineWords t (s .from)) _ (sym (form f) ∙ form-not t (f .line-form .result) (not-true _ (c .before .if1 .taken))))
+    c .refuse .ensures ∙ sym (refused-12 _ _ _ _ _ (sym (form f) ∙ form-not (now (start f .args .line)) _ (f .line-form .result) (not-true _ (c .before .if1 .taken))))
 
 returns-2 : tie.Need-returns-2
 returns-2 c =
-    let a = c .before .before in
-    let f = a .before .before .before in
-    let s = f .before .before .before .args in
-    let t = now (s .line) in
-    c .refuse2 .ensures ∙ sym (refused-13 t (s .builder) (lineWords t (s .from)) _ _ _ (fits (a .before)) (sym (a .any-word .ensures) ∙ c .before .if2 .taken))
+    let w = c .before .before in
+    c .refuse2 .ensures ∙ sym (refused-13 _ _ _ _ _ _ _ (fits (w .before)) (sym (long-is w) ∙ c .before .if2 .taken))
 
 returns-3 : tie.Need-returns-3
 returns-3 c =
-    let b = c .before .before in
-    let a = b .before .before in
-    let f = a .before .before .before in
-    let s = f .before .before .before .args in
-    let t = now (s .line) in
-    c .refuse3 .ensures ∙ sym (refused-14 t (s .builder) (lineWords t (s .from)) _ _ _ (fits (a .before)) (sym (a .any-word .ensures) ∙ b .before .if2 .left) (sym (b .any-word2 .ensures) ∙ c .before .if3 .taken))
+    let e = c .before .before in
+    let w = e .before in
+    c .refuse3 .ensures ∙ sym (refused-14 _ _ _ _ _ _ _ (fits (w .before)) (sym (long-is w) ∙ e .if2 .left) (sym (bad-is w) ∙ c .before .if3 .taken))
 
 returns-4 : tie.Need-returns-4
 returns-4 c =
-    let d = c .before .before in
-    let b = d .before .before in
-    let a = b .before .before in
-    let f = a .before .before .before in
-    let s = f .before .before .before .args in
-    let t = now (s .line) in
-    c .refuse4 .ensures
-    ∙ sym (refused-15 t (s .builder) (lineWords t (s .from)) _ _ _ (fits (a .before)) (sym (a .any-word .ensures) ∙ b .before .if2 .left) (sym (b .any-word2 .ensures) ∙ d .before .if3 .left) (sym (d .any-word3 .ensures) ∙ c .before .if4 .taken))
+    let f = c .before .before in
+    let e = f .before in
+    let w = e .before in
+    c .refuse4 .ensures ∙ sym (refused-15 _ _ _ _ _ _ _ (fits (w .before)) (sym (long-is w) ∙ e .if2 .left) (sym (bad-is w) ∙ f .if3 .left) (sym (twice-is w) ∙ c .before .if4 .taken))
 
 returns-5 : tie.Need-returns-5
 returns-5 c =
-    let e = c .before .before .before in
-    let d = e .before in
-    let b = d .before .before in
-    let a = b .before .before in
-    let f = a .before .before .before in
-    let s = f .before .before .before .args in
-    let t = now (s .line) in
+    let g = c .before .before in
+    let f = g .before in
+    let e = f .before in
+    let w = e .before in
     c .add-line .ensures
-    ∙ sym (to-add t (s .builder) (lineWords t (s .from)) _ _ _ (fits (a .before)) (sym (a .any-word .ensures) ∙ b .before .if2 .left) (sym (b .any-word2 .ensures) ∙ d .before .if3 .left) (sym (d .any-word3 .ensures) ∙ e .if4 .left))
+    ∙ rw (w .before .before .before .before .with-words .ensures)
+    (sym (to-add _ _ _ _ _ _ _ (fits (w .before)) (sym (long-is w) ∙ e .if2 .left) (sym (bad-is w) ∙ f .if3 .left) (sym (twice-is w) ∙ g .if4 .left)))
 
 pub read-words-spec : {M : Type 1} → statement M
 read-words-spec =
@@ -79,9 +84,7 @@ read-words-spec =
     (λ c κs. search needs)
     returns-2
     (λ c κs. search needs)
-    (λ c κs. search needs)
     returns-3
-    (λ c κs. search needs)
     (λ c κs. search needs)
     returns-4
     (λ c κs. search needs)

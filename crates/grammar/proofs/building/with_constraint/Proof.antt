@@ -1,12 +1,12 @@
 -- `with_constraint` meets its contract. Assumes nothing.
 use borrow.Author.Needs.{needs}
 use borrow.Author.Tests.{le-leb, lt-leb}
-use Rattle.table.proofs.reader.with_constraint.Statement.{statement}
-use Rattle.table.proofs.reader.with_constraint.Tie as tie
+use Rattle.grammar.proofs.building.with_constraint.Statement.{statement}
+use Rattle.grammar.proofs.building.with_constraint.Tie as tie
 
 returns-2 : tie.Need-returns-2
 returns-2 c =
-    let e = c .before .before in
+    let e = c .before in
     rw (lt-leb 64 (e .before .before .args .builder .table .count) (e .if1 .left), c .with-defined .ensures)
 
 pub with-constraint-spec : {M : Type 1} → statement M

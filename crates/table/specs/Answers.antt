@@ -1,0 +1,20 @@
+-- Of the code's shape: the checks 13, 14 and 15 of a line's words, asked in one walk over them. Assumes nothing.
+use mathlib.Core.Bool.{false, _||_}
+use mathlib.Core.List.{List}
+use Prim.Native.Nat.{ℕ}
+use Rattle.text.specs.declared.Span.{Span}
+use Rattle.table.specs.Reader.{anyWord, longName, badNumber, twice}
+use Rattle.table.specs.declared.Flaws.{Flaws}
+
+abbrev pub none : Flaws
+none = record { long = false; bad = false; twice = false }
+
+-- of some words, one of which is to fail; of one word, with those after it; and of either
+abbrev pub flawsOf : List ℕ → List Span → Flaws
+flawsOf t ws = record { long = anyWord (longName t) ws; bad = anyWord (badNumber t) ws; twice = anyWord (twice t) ws }
+
+abbrev pub wordFlaws : List ℕ → Span → List Span → Flaws
+wordFlaws t w ws = record { long = longName t w ws; bad = badNumber t w ws; twice = twice t w ws }
+
+abbrev pub either : Flaws → Flaws → Flaws
+either a b = record { long = a .long || b .long; bad = a .bad || b .bad; twice = a .twice || b .twice }
