@@ -1,4 +1,5 @@
 -- The words of a table line, told apart: document 01, "Table text". Assumes nothing.
+use mathlib.Core.Path.{_≡_, refl}
 use mathlib.Core.Bool.{Bool, cond, _&&_}
 use mathlib.Core.List.{List, [], _∷_}
 use Prim.Native.Nat.{ℕ}
@@ -70,3 +71,20 @@ lookUp w (s ∷ ss) = cond (sameBytes w (s .bytes)) (s .token) (lookUp w ss)
 
 abbrev pub tokenOf : List ℕ → Token
 tokenOf w = lookUp w formWords
+
+-- a word of a form, which is no name; a name; digits; a word that is neither
+form-word : tokenOf (ascii "lub") ≡ Form (Defines Lub)
+unfolding lookUp sameBytes
+form-word = refl
+
+a-name : tokenOf (ascii "a_1") ≡ Name
+unfolding lookUp sameBytes shapeOf allBytes
+a-name = refl
+
+some-digits : tokenOf (ascii "007") ≡ Digits
+unfolding lookUp sameBytes shapeOf allBytes
+some-digits = refl
+
+neither : tokenOf (ascii "1a") ≡ Other
+unfolding lookUp sameBytes shapeOf allBytes
+neither = refl

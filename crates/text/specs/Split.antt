@@ -1,14 +1,16 @@
 -- A text is a list of bytes. It is split at separators into pieces, each a span of offsets: the lines of a table are the pieces
 -- between newlines, and the words of a line the pieces between spaces that have a byte, where a parenthesis is a piece by itself.
 -- Assumes nothing.
-use mathlib.Core.Path.{_≡_}
+use mathlib.Core.Path.{_≡_, refl}
 use mathlib.Core.Bool.{Bool, cond}
 use mathlib.Core.List.{List, [], _∷_}
 use Prim.Native.Nat.{ℕ, _+_, _-_, _<_}
 use lib.Dec.{ltb}
 use lib.ListN.{length, take, drop}
+use Rattle.text.specs.Ascii.{ascii}
 use Rattle.text.specs.Bytes.{inClass, ends}
 use Rattle.text.specs.declared.Class.{Class}
+use Rattle.text.specs.declared.Class.the-variants.{Newline, Space, Parting}
 use Rattle.text.specs.declared.Span.{Span}
 
 abbrev pub span : ℕ → ℕ → Span
@@ -68,3 +70,20 @@ pub record NextWord (k : Class) (t : List ℕ) (at : ℕ) (r : Span) : Type 0 wh
   pub found : r ≡ front t (wordsAt k t at)
   pub after : wordsAt k t (r .end) ≡ rest (wordsAt k t at)
   pub forward : at < length t → at < r .end
+
+-- lines, an empty one among them; the words of a line, and a parenthesis in one; the words of a recording, in which it ends none
+three-lines : piecesAt (inClass Newline) (97 ∷ 10 ∷ 10 ∷ 98 ∷ []) 0 ≡ span 0 1 ∷ span 2 2 ∷ span 3 4 ∷ []
+unfolding pieces grown
+three-lines = refl
+
+two-words : wordsAt Space (ascii " a  bc") 0 ≡ span 1 2 ∷ span 4 6 ∷ []
+unfolding filled tokens grown
+two-words = refl
+
+three-words : wordsAt Space (ascii "a(b") 0 ≡ span 0 1 ∷ span 1 2 ∷ span 2 3 ∷ []
+unfolding filled tokens grown
+three-words = refl
+
+one-word : wordsAt Parting (ascii "1(b") 0 ≡ span 0 3 ∷ []
+unfolding filled tokens grown
+one-word = refl
