@@ -13,10 +13,12 @@ use Rattle.constraint.specs.declared.Word.{Word}
 use Rattle.run.specs.Run.{Said, accepted, violated, refused}
 use Rattle.text.specs.Ascii.{ascii}
 use Rattle.text.specs.Bytes.{digit, allBytes}
-use Rattle.printing.specs.Decimal.{digits, signed}
+use Rattle.text.specs.Digits.{digits}
+use Rattle.printing.specs.Decimal.{signed}
 use Rattle.printing.specs.Determined.{TextDetermines}
 use Rattle.printing.specs.Printed.{rest, line, verdictLine, stepsLine, configLine, wordText, shown}
-use Rattle.printing.proofs.DecimalLaws.{digits-are, digits-all, digits-once}
+use Rattle.text.proofs.Decimals.{digits-are, digits-all}
+use Rattle.printing.proofs.DecimalLaws.{digits-once}
 
 -- ---- words and lines
 

@@ -13,7 +13,8 @@ use Rattle.text.proofs.Bytes.{drop-next}
 use Rattle.constraint.specs.Meaning.{negative}
 use Rattle.constraint.specs.declared.Word.{Word}
 use Rattle.run.specs.Run.{Told}
-use Rattle.printing.specs.Decimal.{digits, signed}
+use Rattle.text.specs.Digits.{digits}
+use Rattle.printing.specs.Decimal.{signed}
 use Rattle.printing.specs.Printed.{rest, wordText, printed, Begins}
 use Rattle.printing.specs.Put.{Put}
 use Rattle.printing.proofs.PutLaws.{Left, left-then, left-none, put-byte}

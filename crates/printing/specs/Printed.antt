@@ -9,7 +9,8 @@ use Rattle.constraint.specs.Meaning.{word}
 use Rattle.constraint.specs.declared.Word.{Word}
 use Rattle.run.specs.Run.{Told, Said, accepted, violated, refused, zeros}
 use Rattle.text.specs.Ascii.{ascii}
-use Rattle.printing.specs.Decimal.{digits, digitsOf, signed}
+use Rattle.text.specs.Digits.{digits, digitsOf}
+use Rattle.printing.specs.Decimal.{signed}
 
 -- ---- a line: its words parted by one space, byte 32, and ended by byte 10
 

@@ -1,7 +1,7 @@
 // Texts and numbers put into a buffer, from an offset on.
 ghost use Prim.Native.Nat.{_+_, _≤_};
 ghost use lib.ListN.{length};
-ghost use Rattle.printing.specs.Decimal.{digits};
+ghost use Rattle.text.specs.Digits.{digits};
 ghost use Rattle.printing.specs.Put.{Put};
 
 // Puts a text, and answers where it ends.

@@ -11,7 +11,7 @@ ghost use mathlib.Core.List.{_∷_};
 ghost use Prim.Native.Nat.{_+_, _≤_};
 ghost use lib.ListN.{length};
 ghost use Rattle.limit.specs.Limit.{numberOf};
-ghost use Rattle.printing.specs.Decimal.{digits};
+ghost use Rattle.text.specs.Digits.{digits};
 ghost use Rattle.printing.specs.Printed.{wordText};
 ghost use Rattle.printing.specs.Put.{Short};
 

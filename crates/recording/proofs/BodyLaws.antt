@@ -12,9 +12,8 @@ use Rattle.limit.specs.declared.Refusal.{Refusal}
 use Rattle.text.specs.Digits.{number}
 use Rattle.text.specs.Split.{bytesOf}
 use Rattle.text.specs.declared.Span.{Span}
-use Rattle.recording.specs.Answers.{turnAs, behindMark}
+use Rattle.recording.specs.Answers.{turnAs}
 use Rattle.recording.specs.Body.{opensMark, levelOf, markTurn, variableTurn, levelTurn, changeTurn, wordTurn, ended, refusedAt, endsWith, closing, onward, bodySteps}
-use Rattle.recording.specs.Header.{words}
 use Rattle.limit.specs.Checked.{stopped}
 use Rattle.recording.specs.Variables.{Variable}
 use Rattle.recording.specs.declared.Level.{Level}
@@ -94,20 +93,22 @@ module _ (vs : List Variable) (r : List ℕ) (o : Step) (ws : List Span) where
   unfolding bodySteps
   body-done e = rw e
 
-  module _ (w : Span) (e : ws ≡ w ∷ words r (w .end)) where
-    pub body-mark : opensMark (bytesOf r w) ≡ true → bodySteps vs r o ws ≡ closing o (behindMark vs r o w)
+  module _ (w : Span) (us : List Span) (e : ws ≡ w ∷ us) where
+    pub body-mark : opensMark (bytesOf r w) ≡ true
+        → bodySteps vs r o ws ≡ closing o (onward (markTurn o (w .start) (number (drop 1 (bytesOf r w)))) (λ p. bodySteps vs r p us))
     unfolding bodySteps wordTurn
     body-mark m = rw (e, m)
 
-    body-change : opensMark (bytesOf r w) ≡ false → (t : Turn) → turnAs t ≡ changeTurn vs o (w .start) (bytesOf r w) → bodySteps vs r o ws ≡ onward (turnAs t) (λ p. bodySteps vs r p (words r (w .end)))
-    unfolding bodySteps wordTurn
-    body-change m t q = rw (e, m, ← q)
+    module _ (m : opensMark (bytesOf r w) ≡ false) where
+      pub body-change : bodySteps vs r o ws ≡ onward (changeTurn vs o (w .start) (bytesOf r w)) (λ p. bodySteps vs r p us)
+      unfolding bodySteps wordTurn
+      body-change = rw (e, m)
 
-    module _ (m : opensMark (bytesOf r w) ≡ false) (t : Turn) (q : turnAs t ≡ changeTurn vs o (w .start) (bytesOf r w)) where
-      pub change-stop : (f : Refusal) → t ≡ Refused f → bodySteps vs r o ws ≡ endsWith (refusedAt (f .limit) (f .place .0))
-      unfolding onward
-      change-stop f h = body-change m t q ∙ rw h
+      module _ (t : Turn) (q : turnAs t ≡ changeTurn vs o (w .start) (bytesOf r w)) where
+        pub change-stop : (f : Refusal) → t ≡ Refused f → bodySteps vs r o ws ≡ endsWith (refusedAt (f .limit) (f .place .0))
+        unfolding onward
+        change-stop f h = body-change ∙ rw (← q, h)
 
-      pub change-on : (p : Step) → t ≡ Passed p → bodySteps vs r o ws ≡ bodySteps vs r p (words r (w .end))
-      unfolding onward
-      change-on p h = body-change m t q ∙ rw h
+        pub change-on : (p : Step) → t ≡ Passed p → bodySteps vs r o ws ≡ bodySteps vs r p us
+        unfolding onward
+        change-on p h = body-change ∙ rw (← q, h)

@@ -1,3 +1,4 @@
+pub mod BeforeWords
 pub mod BodyLaws
 pub mod HeaderLaws
 pub mod StepTicks

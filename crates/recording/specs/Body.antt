@@ -1,5 +1,6 @@
 -- The body: document 01, "Recording" and the rows 40 to 44 of "Where each refusal is checked". Reading alone, with nothing judged, gives the
 -- steps that were closed, each by a word that opens with `#` or by the end, and how reading ended. Assumes nothing.
+use mathlib.Core.Path.{_≡_, refl}
 use mathlib.Core.Bool.{Bool, true, false, not, cond, _&&_}
 use mathlib.Core.List.{List, [], _∷_}
 use Prim.Native.Nat.{ℕ}
@@ -8,16 +9,18 @@ use lib.ListN.{drop}
 use Rattle.limit.specs.declared.Limit.{Limit}
 use Rattle.limit.specs.declared.Limit.the-variants.{BodyWord, MarkTime, ChangeBeforeMark, IdUndeclared, TickTwice}
 use Rattle.constraint.specs.Ticks.{bits, withTick}
-use Rattle.text.specs.Digits.{number}
-use Rattle.text.specs.Split.{bytesOf}
+use Rattle.text.specs.Ascii.{ascii}
+use Rattle.text.specs.Bytes.{allBytes, sameBytes}
+use Rattle.text.specs.Digits.{number, value}
+use Rattle.text.specs.Split.{bytesOf, tokens, filled, grown}
 use Rattle.text.specs.declared.Number.{Number}
 use Rattle.text.specs.declared.Number.the-variants.{NotDigits, TooLarge, Value}
 use Rattle.text.specs.declared.Span.{Span}
 use Rattle.grammar.specs.declared.Found.{Found}
 use Rattle.grammar.specs.declared.Found.the-variants.{At, Nothing}
 use Rattle.limit.specs.Checked.{Checked, passed, stopped, refuseIf}
-use Rattle.recording.specs.Header.{Header, opened}
-use Rattle.recording.specs.Variables.{Variable, lookUp}
+use Rattle.recording.specs.Header.{Header, opened, words}
+use Rattle.recording.specs.Variables.{Variable, lookUp, withId}
 use Rattle.recording.specs.declared.Level.{Level}
 use Rattle.recording.specs.declared.Level.the-variants.{Tick, NoTick, NoChange}
 use Rattle.recording.specs.declared.Step.{Step}
@@ -108,3 +111,25 @@ bodyOf r h = bodySteps (h .variables) r unmarked (h .body)
 -- the whole recording
 abbrev pub reading : (named : List ℕ → ℕ) (n : ℕ) → List ℕ → Reading
 reading named n r = onward (opened named n r) (bodyOf r)
+
+-- ---- examples: a variable `!` of clock 0, behind a mark at 7
+
+abbrev bang : List Variable
+bang = record { id = ascii "!"; clock = 0 } ∷ []
+
+tick : wordTurn bang (begin 0 7) 3 (ascii "1!") ≡ passed (ticking 0 (begin 0 7))
+unfolding wordTurn changeTurn levelTurn withId sameBytes
+tick = refl
+
+no-tick : wordTurn bang (begin 0 7) 3 (ascii "0!") ≡ passed (begin 0 7)
+unfolding wordTurn changeTurn levelTurn withId sameBytes
+no-tick = refl
+
+equal-time : wordTurn bang (begin 0 7) 3 (ascii "#07") ≡ stopped MarkTime 3
+unfolding wordTurn number value allBytes
+equal-time = refl
+
+-- the step before a mark is closed, and so is the last
+two-steps : bodySteps bang (ascii "#7 #9 1!") unmarked (words (ascii "#7 #9 1!") 0) ≡ record { steps = begin 0 7 ∷ ticking 0 (begin 3 9) ∷ []; ending = ended }
+unfolding bodySteps onward closing wordTurn changeTurn levelTurn withId sameBytes number value allBytes tokens filled grown
+two-steps = refl

@@ -1,5 +1,6 @@
 -- The header: document 01, "Recording" and the rows 30 to 37 of "Where each refusal is checked". r is the recording, n the table's clock
 -- count, and named gives the number of the clock with a name. Assumes nothing.
+use mathlib.Core.Path.{_≡_, refl}
 use mathlib.Core.Bool.{Bool, true, not, cond, _&&_, _||_}
 use mathlib.Core.List.{List, [], _∷_, _++_}
 use Prim.Native.Nat.{ℕ}
@@ -9,7 +10,7 @@ use lib.ListN.{length}
 use Rattle.limit.specs.declared.Limit.the-variants.{RecordingLength, RecordingByte, HeaderCommand, VariableShape, DeclaredTwice, VariableCount, ClockUndeclared, HeaderCutOff}
 use Rattle.text.specs.Ascii.{ascii}
 use Rattle.text.specs.Bytes.{passes, sameBytes}
-use Rattle.text.specs.Split.{bytesOf, wordsAt, runEnd}
+use Rattle.text.specs.Split.{bytesOf, wordsAt, runEnd, tokens, filled, grown}
 use Rattle.text.specs.declared.Class.the-variants.{Parting, Recorded}
 use Rattle.text.specs.declared.Span.{Span}
 use Rattle.limit.specs.Checked.{Checked, passed, stopped, refuseIf, andThen}
@@ -106,3 +107,17 @@ opened named n r =
     refuseIf (ltb mostBytes (length r)) RecordingLength 0
     (refuseIf (ltb (firstOther r) (length r)) RecordingByte (firstOther r)
     (header named n r [] (words r 0)))
+
+-- ---- examples: a command is a whole word; a command whose words run out has 36 and the recording's length
+
+a-command : commandOf (ascii "$date") ≡ Skipped
+unfolding sameBytes
+a-command = refl
+
+no-command : commandOf (ascii "$end") ≡ Unknown
+unfolding sameBytes
+no-command = refl
+
+cut-off : header (λ w. 0) 1 (ascii "$var 1") [] (words (ascii "$var 1") 0) ≡ stopped HeaderCutOff 6
+unfolding header declaring sameBytes tokens filled grown
+cut-off = refl

@@ -1,4 +1,5 @@
 pub mod Answers
+pub mod BeforeWords
 pub mod Body
 pub mod Header
 pub mod Index

@@ -1,9 +1,11 @@
 -- The variables that a header declares: document 01, "Recording". Assumes nothing.
+use mathlib.Core.Path.{_≡_, refl}
 use mathlib.Core.Bool.{Bool, true, false, not, cond, _&&_, _||_}
 use mathlib.Core.List.{List, [], _∷_}
 use Prim.Native.Nat.{ℕ, zero, suc}
 use lib.Dec.{eqb, leb}
 use lib.ListN.{length}
+use Rattle.text.specs.Ascii.{ascii}
 use Rattle.text.specs.Bytes.{sameBytes}
 use Rattle.grammar.specs.Grammar.{clockOf}
 use Rattle.grammar.specs.Names.{numberIn}
@@ -49,3 +51,19 @@ clockAgain vs k = not (eqb k ignored) && hasClock vs k
 unfoldable pub allDeclared : List Variable → ℕ → Bool
 allDeclared vs zero = true
 allDeclared vs (suc k) = hasClock vs k && allDeclared vs k
+
+-- ---- examples: an id over 4 bytes is undeclared; an ignored variable may be declared again
+
+found : lookUp (record { id = ascii "!"; clock = 3 } ∷ []) (ascii "!") ≡ At 3
+unfolding withId sameBytes
+found = refl
+
+too-long : lookUp (record { id = ascii "!!!!!"; clock = 3 } ∷ []) (ascii "!!!!!") ≡ Nothing
+too-long = refl
+
+again : clockAgain (record { id = ascii "!"; clock = 3 } ∷ []) 3 ≡ true
+unfolding hasClock
+again = refl
+
+ignored-again : clockAgain (record { id = ascii "!"; clock = ignored } ∷ []) ignored ≡ false
+ignored-again = refl

@@ -7,7 +7,7 @@ use native.Mathlib.Omega.{arith}
 use lib.ListN.{length, set}
 use borrow.Fn.Kinds.{In}
 use borrow.Fn.PlainCycle.{Measures, is, falls, and}
-use Rattle.printing.specs.Decimal.{digits}
+use Rattle.text.specs.Digits.{digits}
 use Rattle.printing.specs.Put.{Put}
 use Rattle.printing.proofs.DecimalLaws.{front, front-none, front-some, digits-last, digits-length}
 use Rattle.printing.proofs.PutLaws.{put-none, put-byte, put-then, put-length}

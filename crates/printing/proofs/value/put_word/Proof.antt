@@ -6,7 +6,7 @@ use lib.ListN.{length}
 use mir.Syntax.{w64}
 use mir.Val.{SFits}
 use borrow.Author.Needs.{needs}
-use Rattle.printing.specs.Decimal.{digits}
+use Rattle.text.specs.Digits.{digits}
 use Rattle.printing.proofs.DecimalLaws.{magnitude-few}
 use Rattle.printing.proofs.PrintedLaws.{signed-below, signed-above}
 use Rattle.printing.proofs.PutLaws.{put-then}

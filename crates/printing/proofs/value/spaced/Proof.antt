@@ -3,7 +3,7 @@ use mathlib.Core.List.{_∷_}
 use native.Mathlib.Omega.{arith}
 use lib.ListN.{length-set}
 use borrow.Author.Needs.{needs}
-use Rattle.printing.specs.Decimal.{digits}
+use Rattle.text.specs.Digits.{digits}
 use Rattle.printing.specs.Put.{Put}
 use Rattle.printing.proofs.DecimalLaws.{digits-of-64}
 use Rattle.printing.proofs.PutLaws.{put-byte, put-then, put-length}

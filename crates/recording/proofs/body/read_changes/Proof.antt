@@ -50,7 +50,7 @@ returns-2 c =
     let n = e .before .before in
     let l = n .before .before in
     record {
-      left = sym (body-mark _ _ _ _ (n .next-word .result) (some e) (rw (o .before .part .ensures) at (sym (o .opens-mark .ensures) ∙ c .if2 .taken))) ∙ l .loop .inv .1;
+      left = sym (body-mark _ _ _ _ (n .next-word .result) _ (some e) (rw (o .before .part .ensures) at (sym (o .opens-mark .ensures) ∙ c .if2 .taken))) ∙ l .loop .inv .1;
       forward = (omega (arith, l .loop .inv .0, n .before .loop-test .taken), omega (arith, l .loop .inv .0, n .next-word .ensures .forward (n .before .loop-test .taken)));
     }
 
@@ -77,7 +77,7 @@ returns-3 c =
     let e = k .before .before .before .before .before in
     let l = e .before .before .before .before in
     record {
-      left = sym (change-stop _ _ _ _ _ (some e) (opens-not k) _ (changes k) _ (t .turn .given .1)) ∙ l .loop .inv .1;
+      left = sym (change-stop _ _ _ _ _ _ (some e) (opens-not k) _ (changes k) _ (t .turn .given .1)) ∙ l .loop .inv .1;
       forward = tt;
     }
 
@@ -93,7 +93,7 @@ loop-again c =
     let e = k .before .before .before .before .before in
     let n = e .before .before in
     let l = n .before .before in
-    (omega (arith, n .next-word .ensures .forward (n .before .loop-test .taken), l .loop .inv .0), sym (change-on _ _ _ _ _ (some e) (opens-not k) _ (changes k) _ (t .turn2 .given .1)) ∙ l .loop .inv .1)
+    (omega (arith, n .next-word .ensures .forward (n .before .loop-test .taken), l .loop .inv .0), sym (change-on _ _ _ _ _ _ (some e) (opens-not k) _ (changes k) _ (t .turn2 .given .1)) ∙ l .loop .inv .1)
 
 returns-4 : tie.Need-returns-4 Inv-loop μ-loop
 returns-4 c =

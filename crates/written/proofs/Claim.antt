@@ -1,0 +1,184 @@
+-- A recording that may be written is read as the steps that it was written from: its bytes, its header, its body; and the example of Claim
+-- may be written, so the conditions can be met. Assumes nothing.
+use Prim.Native.Nat.{ℕ, zero, suc, _+_, _≤_, _<_}
+use mathlib.Core.Path.{_≡_, refl, sym, ap, _∙_}
+use mathlib.Core.List.{List, [], _∷_, _++_, append-assoc, append-nil}
+use mathlib.Core.Bool.{Bool, true, false, not, _&&_, or-true}
+use native.Mathlib.Omega.{arith}
+use borrow.Author.Tests.{le-leb}
+use lib.Dec.{eqb}
+use lib.ListN.{length, drop, length-append}
+use lib.Seq.{drop-at}
+use Rattle.limit.specs.Checked.{passed}
+use Rattle.text.specs.Ascii.{ascii}
+use Rattle.text.specs.Bytes.{parting, allBytes, sameBytes}
+use Rattle.text.specs.Digits.{digits, digitsOf}
+use Rattle.text.proofs.Bytes.{equal-same, differ-same, all-append, all-to}
+use Rattle.text.proofs.Decimals.{digits-are}
+use Rattle.grammar.specs.declared.Found.the-variants.{At}
+use Rattle.recording.specs.BeforeWords.{recorded}
+use Rattle.recording.specs.Body.{unmarked, closing, onward, reading}
+use Rattle.recording.specs.Header.{words, opened}
+use Rattle.recording.specs.Variables.{Variable, withId, hasClock, clockAgain, allDeclared}
+use Rattle.recording.proofs.BeforeWords.{before-words}
+use Rattle.written.specs.Claim.{variables, clockAt, asRead, Each, Apart, graphic, Graphic, Writable, WrittenIsRead, byName}
+use Rattle.written.specs.Layout.{WrittenVariable, WrittenStep, line, texts, declarationWords, declaration, definitionsEnd, mark, tickAt, variableAt, step, header, written, two, three}
+use Rattle.written.proofs.BodyRead.{Known, steps-read}
+use Rattle.written.proofs.EachLaws.{each-all, each-to, each-with, each-at}
+use Rattle.written.proofs.HeaderRead.{graphic-word, declarations-read, end-read}
+use Rattle.written.proofs.LineLaws.{left-behind}
+
+-- ---- the bytes: each line has recorded bytes alone
+
+abbrev Recorded : List ℕ → Type 0
+Recorded w = allBytes recorded w ≡ true
+
+graphic-recorded : (w : List ℕ) → allBytes graphic w ≡ true → Recorded w
+graphic-recorded = all-to graphic recorded (λ b e. rw e (or-true (parting b)))
+
+abbrev AllRecorded : List ℕ → List (List ℕ) → Type 0
+AllRecorded w [] = Recorded w
+AllRecorded w (x ∷ ws) = Recorded w × AllRecorded x ws
+
+line-recorded : (ws : List (List ℕ)) (w : List ℕ) → AllRecorded w ws → Recorded (line w ws)
+unfolding line allBytes
+line-recorded [] w e = all-append recorded w (10 ∷ []) e refl
+line-recorded (x ∷ ws) w e = all-append recorded w (32 ∷ line x ws) (e .0) (line-recorded ws x (e .1))
+
+texts-recorded : {A : Type 0} (f : A → List ℕ) (l : List A) → Each (λ a. Recorded (f a)) l → Recorded (texts f l)
+unfolding texts Each allBytes
+texts-recorded f [] e = refl
+texts-recorded f (a ∷ l) e = all-append recorded (f a) (texts f l) (e .0) (texts-recorded f l (e .1))
+
+declaration-recorded : (v : WrittenVariable) → Graphic (v .id) → Graphic (v .name) → Recorded (declaration v)
+unfolding allBytes
+declaration-recorded v i n = line-recorded (declarationWords v) (ascii "$var") (refl, (refl, (refl, (graphic-recorded (v .id) (i .bytes), (graphic-recorded (v .name) (n .bytes), refl)))))
+
+end-recorded : Recorded definitionsEnd
+unfolding allBytes
+end-recorded = line-recorded (ascii "$end" ∷ []) (ascii "$enddefinitions") (refl, refl)
+
+mark-recorded : (t : ℕ) → Recorded (mark t)
+unfolding allBytes
+mark-recorded t =
+    line-recorded [] (35 ∷ digits t)
+    (digits-are recorded (λ d h. rw (le-leb 33 (48 + d) (omega arith), le-leb (48 + d) 126 (omega arith)) (or-true (parting (48 + d)))) t)
+
+tick-recorded : (vs : List WrittenVariable) (i : ℕ) → Graphic (variableAt vs i .id) → Recorded (tickAt vs i)
+unfolding allBytes
+tick-recorded vs i g = line-recorded [] (49 ∷ variableAt vs i .id) (graphic-recorded (variableAt vs i .id) (g .bytes))
+
+-- ---- look-ups
+
+found-at : (named : List ℕ → ℕ) (vs : List WrittenVariable) (i : ℕ) → i < length vs → Apart (λ u v. u .id ≡ v .id → ⊥) vs
+    → withId (variables named vs) (variableAt vs i .id) ≡ At (clockAt named vs i)
+unfolding withId Apart
+found-at named [] i h d = absurd (omega arith)
+found-at named (v ∷ vs) zero h d = rw (equal-same (v .id))
+found-at named (v ∷ vs) (suc i) h d =
+    let q : sameBytes (v .id) (variableAt vs i .id) ≡ false = differ-same (v .id) (variableAt vs i .id) (each-at (record { id = []; name = [] }) (λ u. v .id ≡ u .id → ⊥) vs i (d .0) (omega arith)) in
+    rw q (found-at named vs i (omega arith) (d .1))
+
+all-clocks : (us : List Variable) (n : ℕ) → ((k : ℕ) → k < n → hasClock us k ≡ true) → allDeclared us n ≡ true
+unfolding allDeclared
+all-clocks us zero f = refl
+all-clocks us (suc n) f = rw (f n (omega arith)) (all-clocks us n (λ k h. f k (omega arith)))
+
+none-yet : (k : ℕ) → clockAgain [] k ≡ false
+unfolding hasClock
+none-yet k = go (eqb k 32)
+  where
+    go : (t : Bool) → (not t && false) ≡ false
+    go true = refl
+    go false = refl
+
+-- ---- the whole
+module _ (named : List ℕ → ℕ) (n : ℕ) (vs : List WrittenVariable) (ss : List WrittenStep) (ok : Writable named n vs ss) where
+  abbrev text : List ℕ
+  text = written vs ss
+
+  abbrev us : List Variable
+  us = variables named vs
+
+  abbrev body : List ℕ
+  body = texts (step vs) ss
+
+  id-at : (i : ℕ) → i < length vs → Graphic (variableAt vs i .id)
+  id-at i h = each-at (record { id = []; name = [] }) (λ v. Graphic (v .id)) vs i (ok .ids) h
+
+  known : (i : ℕ) → i < length vs → Known named vs us text i
+  known i h =
+      let short : length (variableAt vs i .id) ≤ 4 = each-at (record { id = []; name = [] }) (λ v. length (v .id) ≤ 4) vs i (ok .short) h in
+      record {
+        word = graphic-word (variableAt vs i .id) (id-at i h);
+        found = rw (le-leb (length (variableAt vs i .id)) 4 short) (found-at named vs i h (ok .distinct));
+      }
+
+  step-recorded : (s : WrittenStep) → Each (λ i. i < length vs) (s .ticks) → Recorded (step vs s)
+  step-recorded s e =
+      all-append recorded (mark (s .time)) (texts (tickAt vs) (s .ticks)) (mark-recorded (s .time))
+      (texts-recorded (tickAt vs) (s .ticks) (each-to (s .ticks) (λ i h. tick-recorded vs i (id-at i h)) e))
+
+  text-recorded : Recorded text
+  text-recorded =
+      all-append recorded (header vs) body
+      (all-append recorded (texts declaration vs) definitionsEnd (texts-recorded declaration vs (each-with vs declaration-recorded (ok .ids) (ok .names))) end-recorded)
+      (texts-recorded (step vs) ss (each-to ss step-recorded (ok .declared)))
+
+  declarations-left : drop 0 text ≡ texts declaration vs ++ (definitionsEnd ++ body)
+  declarations-left = append-assoc (texts declaration vs) definitionsEnd body
+
+  end-left : drop (0 + length (texts declaration vs)) text ≡ definitionsEnd ++ body
+  end-left = left-behind text 0 (texts declaration vs) (definitionsEnd ++ body) declarations-left
+
+  body-at : 0 + length (texts declaration vs) + length definitionsEnd ≡ length (header vs)
+  body-at = omega (arith, length-append (texts declaration vs) definitionsEnd)
+
+  body-left : drop (length (header vs)) text ≡ body ++ []
+  body-left = drop-at (header vs) body (length (header vs)) refl ∙ sym (append-nil body)
+
+  header-read : opened named n text ≡ passed (record { variables = us; body = words text (length (header vs)) })
+  header-read =
+      before-words .header named n text (ok .fits) text-recorded
+      ∙ declarations-read named n text vs [] 0 (definitionsEnd ++ body) declarations-left (ok .ids) (ok .short) (ok .names) (ok .distinct) (ok .once)
+      (each-all vs (λ v. unfold withId in refl)) (each-all vs (λ v. none-yet (named (v .name)))) (omega (arith, ok .few))
+      ∙ end-read named n text us (0 + length (texts declaration vs)) body end-left (all-clocks us n (ok .covers))
+      ∙ ap (λ (i : ℕ). passed (record { variables = us; body = words text i })) body-at
+
+  is-read : reading named n text ≡ asRead named vs ss
+  unfolding onward closing
+  is-read =
+      rw header-read
+      (steps-read named vs us text ss unmarked (length (header vs)) body-left (ok .times) (each-all ss (λ s. refl)) (ok .rise)
+      (each-to ss (λ s e. each-to (s .ticks) known e) (ok .declared)) (ok .single))
+
+pub written-is-read : WrittenIsRead
+written-is-read = is-read
+
+-- ---- the example may be written
+
+covered : (k : ℕ) → k < 2 → hasClock (variables byName two) k ≡ true
+unfolding hasClock sameBytes
+covered zero h = refl
+covered (suc zero) h = refl
+covered (suc (suc k)) h = absurd (omega arith)
+
+two-ids : ascii "!" ≡ ascii "\"\"" → ⊥
+two-ids e = let z : _≡_ {A = ℕ} 1 2 = ap (λ (l : List ℕ). length l) e in omega arith
+
+pub three-may-be-written : Writable byName 2 two three
+unfolding Each Apart allBytes sameBytes line texts digits digitsOf
+three-may-be-written = record {
+  ids = (record { some = omega arith; bytes = refl }, (record { some = omega arith; bytes = refl }, tt));
+  short = (omega arith, (omega arith, tt));
+  distinct = ((two-ids, tt), (tt, tt));
+  names = (record { some = omega arith; bytes = refl }, (record { some = omega arith; bytes = refl }, tt));
+  once = ((λ e. absurd (omega (arith, e)), tt), (tt, tt));
+  covers = covered;
+  few = omega arith;
+  times = (omega arith, (omega arith, (omega arith, tt)));
+  rise = ((omega arith, (omega arith, tt)), ((omega arith, tt), (tt, tt)));
+  declared = ((omega arith, tt), (tt, ((omega arith, (omega arith, tt)), tt)));
+  single = ((tt, tt), (tt, (((λ e. absurd (omega (arith, e)), tt), (tt, tt)), tt)));
+  fits = omega arith;
+}

@@ -1,0 +1,6 @@
+pub mod BodyRead
+pub mod Claim
+pub mod EachLaws
+pub mod HeaderRead
+pub mod LineLaws
+pub mod TickLaws

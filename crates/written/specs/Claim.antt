@@ -1,0 +1,100 @@
+-- The claim: a recording that may be written is read as the steps that it was written from, with these ticks and times, and ends with the
+-- end. r is read with a table of n clocks, and named gives the number of the clock with a name. Assumes nothing.
+use mathlib.Core.Path.{_≡_, refl}
+use mathlib.Core.Bool.{Bool, true, cond, _&&_}
+use mathlib.Core.List.{List, [], _∷_, map}
+use Prim.Native.Nat.{ℕ, _+_, _^_, _≤_, _<_}
+use lib.Dec.{leb}
+use lib.ListN.{length}
+use Rattle.constraint.specs.Ticks.{none, addingAll, number}
+use Rattle.text.specs.Ascii.{ascii}
+use Rattle.text.specs.Bytes.{allBytes, sameBytes}
+use Rattle.text.specs.Digits.{digits, digitsOf}
+use Rattle.recording.specs.Body.{Reading, ended, reading}
+use Rattle.recording.specs.Variables.{Variable, hasClock, ignored}
+use Rattle.recording.specs.declared.Step.{Step}
+use Rattle.written.specs.Layout.{WrittenVariable, WrittenStep, line, texts, variableAt, step, header, written, two, three}
+
+-- ---- what reading is to give
+
+-- the variables as reading keeps them
+abbrev pub variables : (named : List ℕ → ℕ) → List WrittenVariable → List Variable
+variables named vs = map (λ v. record { id = v .id; clock = named (v .name) }) vs
+
+-- the number of the clock of the variable at an index
+abbrev pub clockAt : (named : List ℕ → ℕ) → List WrittenVariable → ℕ → ℕ
+clockAt named vs i = named (variableAt vs i .name)
+
+-- a step with its mark at an offset; of the variables that tick, those that are clocks of the table
+abbrev pub readStep : (named : List ℕ → ℕ) → List WrittenVariable → (at : ℕ) → WrittenStep → Step
+readStep named vs at s = record {
+  begun = true;
+  mark = record { 0 = at };
+  time = record { 0 = s .time };
+  ticks = number 32 (addingAll (map (clockAt named vs) (s .ticks)) none);
+}
+
+-- the steps, the first of which has its mark at an offset
+unfoldable pub readSteps : (named : List ℕ → ℕ) → List WrittenVariable → (at : ℕ) → List WrittenStep → List Step
+readSteps named vs at [] = []
+readSteps named vs at (s ∷ ss) = readStep named vs at s ∷ readSteps named vs (at + length (step vs s)) ss
+
+abbrev pub asRead : (named : List ℕ → ℕ) → List WrittenVariable → List WrittenStep → Reading
+asRead named vs ss = record { steps = readSteps named vs (length (header vs)) ss; ending = ended }
+
+-- ---- what may be written
+
+-- of each; and of each and every later one
+unfoldable pub Each : {A : Type 0} → (A → Type 0) → List A → Type 0
+Each P [] = Unit
+Each P (a ∷ l) = P a × Each P l
+
+unfoldable pub Apart : {A : Type 0} → (A → A → Type 0) → List A → Type 0
+Apart P [] = Unit
+Apart P (a ∷ l) = Each (P a) l × Apart P l
+
+-- one or more bytes from 33 to 126
+abbrev pub graphic : ℕ → Bool
+graphic b = leb 33 b && leb b 126
+
+pub record Graphic (w : List ℕ) : Type 0 where
+  pub some : 0 < length w
+  pub bytes : allBytes graphic w ≡ true
+
+-- not the same clock of the table
+abbrev pub Differ : ℕ → ℕ → Type 0
+Differ j k = j ≡ k → j ≡ ignored
+
+pub record Writable (named : List ℕ → ℕ) (n : ℕ) (vs : List WrittenVariable) (ss : List WrittenStep) : Type 0 where
+  -- ids have 1 to 4 bytes and are distinct
+  pub ids : Each (λ v. Graphic (v .id)) vs
+  pub short : Each (λ v. length (v .id) ≤ 4) vs
+  pub distinct : Apart (λ u v. u .id ≡ v .id → ⊥) vs
+  -- the names cover the table's clocks, once each
+  pub names : Each (λ v. Graphic (v .name)) vs
+  pub once : Apart (λ u v. Differ (named (u .name)) (named (v .name))) vs
+  pub covers : (k : ℕ) → k < n → hasClock (variables named vs) k ≡ true
+  pub few : length vs ≤ 128
+  -- times rise
+  pub times : Each (λ s. s .time < 2 ^ 64) ss
+  pub rise : Apart (λ s t. s .time < t .time) ss
+  -- variables tick, no clock of the table twice in a step
+  pub declared : Each (λ s. Each (λ i. i < length vs) (s .ticks)) ss
+  pub single : Each (λ s. Apart (λ i j. Differ (clockAt named vs i) (clockAt named vs j)) (s .ticks)) ss
+  pub fits : length (written vs ss) ≤ 65_536
+
+abbrev pub WrittenIsRead : Type 0
+WrittenIsRead = (named : List ℕ → ℕ) (n : ℕ) (vs : List WrittenVariable) (ss : List WrittenStep) → Writable named n vs ss → reading named n (written vs ss) ≡ asRead named vs ss
+
+-- ---- the example of Layout, with a table of the two clocks
+
+abbrev pub byName : List ℕ → ℕ
+byName w = cond (sameBytes w (ascii "req")) 0 (cond (sameBytes w (ascii "ack")) 1 ignored)
+
+three-read : asRead byName two three .steps
+    ≡ record { begun = true; mark = record { 0 = 70 }; time = record { 0 = 0 }; ticks = 1 }
+    ∷ record { begun = true; mark = record { 0 = 76 }; time = record { 0 = 7 }; ticks = 0 }
+    ∷ record { begun = true; mark = record { 0 = 79 }; time = record { 0 = 120 }; ticks = 3 }
+    ∷ []
+unfolding readSteps line texts digits digitsOf sameBytes
+three-read = refl
