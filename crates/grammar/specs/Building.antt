@@ -21,7 +21,7 @@ emptyTable = record {
 }
 
 abbrev pub start : Builder
-start = record { table = emptyTable; defined = 0 }
+start = record { records = emptyTable .records; count = 0; names = emptyTable .names; defined = 0 }
 
 -- a constraint on its line
 abbrev pub onItsLine : ℕ → Constraint → Constraint
@@ -30,12 +30,14 @@ onItsLine n r = record { kind = r .kind; defined = r .defined; first = r .first;
 -- one constraint more, on line n, in the next slot, and the names with those of its line; a full table stays as it is
 abbrev pub withConstraint : Builder → Names → ℕ → Constraint → Builder
 withConstraint b ns n r =
-    cond (leb 64 (b .table .count)) b
+    cond (leb 64 (b .count)) b
     (record {
-      table = record { records = set (b .table .records) (b .table .count) (onItsLine n r); count = b .table .count + 1; names = ns };
+      records = set (b .records) (b .count) (onItsLine n r);
+      count = b .count + 1;
+      names = ns;
       defined = withTicks (b .defined) (definedOf r);
     })
 
 -- the table once its last line is read
 abbrev pub finish : Builder → Table
-finish b = b .table
+finish b = record { records = b .records; count = b .count; names = b .names }

@@ -27,8 +27,13 @@ pub fn empty_table() -> Table
 pub fn start() -> Builder
     ensures { λ r. ⌜ r ≡ d.start ⌝ }
 {
+    let table = empty_table();
+    let records = table.records;
+    let names = table.names;
     Builder {
-        table: empty_table(),
+        records,
+        count: 0,
+        names,
         defined: 0,
     }
 }
@@ -42,25 +47,29 @@ pub fn with_constraint(
 ) -> Builder
     ensures { λ r. ⌜ r ≡ d.withConstraint builder names (place .0) constraint ⌝ }
 {
-    let mut table = builder.table;
-    let count = table.count;
+    let count = builder.count;
     if 64 <= count {
         return builder;
     }
     let mut own = constraint;
     own.line = place;
-    table.records[count] = own;
-    table.count = count + 1;
-    table.names = names;
-    Builder {
-        table,
-        defined: constraint::with_defined(builder.defined, own),
-    }
+    let mut more = builder;
+    more.records[count] = own;
+    more.count = count + 1;
+    more.names = names;
+    more.defined = constraint::with_defined(builder.defined, own);
+    more
 }
 
 // The table once its last line is read.
 pub fn finish(builder: Builder) -> Table
     ensures { λ r. ⌜ r ≡ d.finish builder ⌝ }
 {
-    builder.table
+    let records = builder.records;
+    let names = builder.names;
+    Table {
+        records,
+        count: builder.count,
+        names,
+    }
 }

@@ -60,7 +60,9 @@ pub struct Table {
 
 // The table so far, and the clocks that it defines, as a tick set.
 pub struct Builder {
-    pub table: Table,
+    pub records: [Constraint; 64],
+    pub count: usize,
+    pub names: Names,
     pub defined: u32,
 }
 

@@ -24,7 +24,7 @@ use Rattle.text.specs.Bytes.{inClass, allBytes}
 use Rattle.text.specs.Split.{piecesAt}
 use Rattle.text.specs.declared.Class.the-variants.{Newline, Printable}
 use Rattle.text.specs.declared.Span.{Span}
-use Rattle.grammar.specs.Building.{start, onItsLine, withConstraint}
+use Rattle.grammar.specs.Building.{start, onItsLine, withConstraint, finish}
 use Rattle.grammar.specs.Grammar.{Parsed, noForm, parsed, Formed, lineWords, formIn}
 use Rattle.grammar.specs.Names.{withWords}
 use Rattle.table.specs.Reader.{anyWord, longName, badNumber, twice, addLine, formStep, filledStep, blank, lineStep, read, tellOf, readLines, mostBytes, readTable, Passes, EveryTablePasses}
@@ -37,12 +37,12 @@ use Rattle.table.proofs.NamesKnown.{AllKnown, Grown, all-words, nameClo
 -- ---- what every builder has
 record Good (b : Builder) : Type 0 where
   listed : List Constraint
-  records : b .table .records ≡ slots 64 listed
-  count : b .table .count ≡ length listed
+  records : b .records ≡ slots 64 listed
+  count : b .count ≡ length listed
   most : length listed ≤ 64
-  spans : length (b .table .names .spans) ≡ 32
-  room : b .table .names .count ≤ 32
-  fit : firstUnfit (b .table .names .count) none 1 listed ≡ Nowhere
+  spans : length (b .names .spans) ≡ 32
+  room : b .names .count ≤ 32
+  fit : firstUnfit (b .names .count) none 1 listed ≡ Nowhere
   defined : bits (b .defined) ≡ definedIn none listed
 
 good-start : Good start
@@ -51,13 +51,13 @@ good-start = record { listed = []; records = refl; count = refl; most = omega ar
 -- with the names of a line
 module _ (t : List ℕ) (b : Builder) (g : Good b) (ws : List Span) where
   abbrev names : Names
-  names = withWords t (b .table .names) ws
+  names = withWords t (b .names) ws
 
-  grown : Grown t (b .table .names) ws names
-  grown = all-words t (b .table .names) (g .spans) (g .room) ws
+  grown : Grown t (b .names) ws names
+  grown = all-words t (b .names) (g .spans) (g .room) ws
 
   fit-names : firstUnfit (names .count) none 1 (g .listed) ≡ Nowhere
-  fit-names = clocks-more (b .table .names .count) (names .count) (grown .more) none 1 (g .listed) (g .fit)
+  fit-names = clocks-more (b .names .count) (names .count) (grown .more) none 1 (g .listed) (g .fit)
 
 -- ---- a line
 abbrev AfterStep : Checked Builder → Type 0
@@ -69,10 +69,10 @@ unless-refused true l n s f = tt
 unless-refused false l n s f = f refl
 
 module _ (t : List ℕ) (n : ℕ) (b : Builder) (g : Good b) where
-  one-constraint : (ws : List Span) (r : Constraint) → wellFormed (names t b g ws .count) r ≡ true → any (bits (b .defined)) (definedOf r) ≡ false → leb 64 (b .table .count) ≡ false → Good (withConstraint b (names t b g ws) n r)
+  one-constraint : (ws : List Span) (r : Constraint) → wellFormed (names t b g ws .count) r ≡ true → any (bits (b .defined)) (definedOf r) ≡ false → leb 64 (b .count) ≡ false → Good (withConstraint b (names t b g ws) n r)
   one-constraint ws r w p16 p18 =
-      let h : b .table .count < 64 = leb-false 64 (b .table .count) p18 in
-      let e : b .table .count ≡ length (g .listed) = g .count in
+      let h : b .count < 64 = leb-false 64 (b .count) p18 in
+      let e : b .count ≡ length (g .listed) = g .count in
       let more : List Constraint = g .listed ++ onItsLine n r ∷ [] in
       let l : length more ≡ length (g .listed) + 1 = length-append (g .listed) (onItsLine n r ∷ []) in
       rw p18 (record {
@@ -92,7 +92,7 @@ module _ (t : List ℕ) (n : ℕ) (b : Builder) (g : Good b) where
       rw e
       (unless-refused (any (bits (b .defined)) (definedOf r)) DefinedTwice n _ (λ p16.
       unless-refused (names t b g ws .over) TableClocks n _ (λ p17.
-      unless-refused (leb 64 (b .table .count)) TableConstraints n _ (λ p18. one-constraint ws r (w p17) p16 p18))))
+      unless-refused (leb 64 (b .count)) TableConstraints n _ (λ p18. one-constraint ws r (w p17) p16 p18))))
 
   form-step : (ws : List Span) (p : Parsed (Formed Names)) → Each (λ f us. Line t (names t b g ws) ws f) p → AfterStep (formStep t n b ws p)
   unfolding formStep
@@ -116,14 +116,14 @@ module _ (t : List ℕ) (n : ℕ) (b : Builder) (g : Good b) where
       go false = unless-refused (not (allBytes (inClass Printable) (drop from t))) LineByte n _ (λ p11. form-step (lineWords t from) (formIn t (names t b g (lineWords t from)) (lineWords t from)) (line-made t (names t b g (lineWords t from)) (lineWords t from)))
 
 -- ---- the table
-good-passes : (b : Builder) → Good b → Passes (b .table)
+good-passes : (b : Builder) → Good b → Passes (finish b)
 good-passes b g =
-    let e : slots (b .table .count) (b .table .records) ≡ g .listed = rw (g .records, g .count) (slots-slots 64 (g .listed) (g .most)) in
-    let p59 : brokenRecord (b .table .names .count) (g .listed) ≡ Nowhere = rw (le-leb (b .table .names .count) 32 (g .room), g .fit) in
-    let p60 : brokenWord (g .listed) (startWords (b .table .records)) ≡ Nowhere = rw (g .records) (start-passes 1 64 (g .listed)) in
+    let e : slots (b .count) (b .records) ≡ g .listed = rw (g .records, g .count) (slots-slots 64 (g .listed) (g .most)) in
+    let p59 : brokenRecord (b .names .count) (g .listed) ≡ Nowhere = rw (le-leb (b .names .count) 32 (g .room), g .fit) in
+    let p60 : brokenWord (g .listed) (startWords (b .records)) ≡ Nowhere = rw (g .records) (start-passes 1 64 (g .listed)) in
     record {
-      records = ap (brokenRecord (b .table .names .count)) e ∙ p59;
-      words = ap (λ rs. brokenWord rs (startWords (b .table .records))) e ∙ p60;
+      records = ap (brokenRecord (b .names .count)) e ∙ p59;
+      words = ap (λ rs. brokenWord rs (startWords (b .records))) e ∙ p60;
       constraints = omega (arith, g .count, g .most);
       clocks = g .room;
       unused = g .records ∙ ap (slots 64) (sym e);

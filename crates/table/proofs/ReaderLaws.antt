@@ -93,11 +93,11 @@ module _ (n : ℕ) (b : Builder) (ns : Names) (r : Constraint) where
     refused-17 e = allows _ _ _ _ p16 ∙ refuses _ _ _ _ e
 
     module _ (p17 : ns .over ≡ false) where
-      pub refused-18 : leb 64 (b .table .count) ≡ true → addLine n b ns r ≡ stopped TableConstraints n
+      pub refused-18 : leb 64 (b .count) ≡ true → addLine n b ns r ≡ stopped TableConstraints n
       unfolding addLine
       refused-18 e = allows _ _ _ _ p16 ∙ (allows _ _ _ _ p17 ∙ refuses _ _ _ _ e)
 
-      pub added : leb 64 (b .table .count) ≡ false → addLine n b ns r ≡ passed (withConstraint b ns n r)
+      pub added : leb 64 (b .count) ≡ false → addLine n b ns r ≡ passed (withConstraint b ns n r)
       unfolding addLine
       added e = allows _ _ _ _ p16 ∙ (allows _ _ _ _ p17 ∙ allows _ _ _ _ e)
 

@@ -1,13 +1,19 @@
--- Of the code's shape: the checks 13, 14 and 15 of a line's words, asked in one walk over them. Assumes nothing.
-use mathlib.Core.Bool.{false, _||_}
+-- Of the code's shape: what a line's reader in code answers stands for, and the checks 13, 14 and 15 of a line's words, asked in one walk
+-- over them. Assumes nothing.
+use mathlib.Core.Bool.{_||_}
 use mathlib.Core.List.{List}
 use Prim.Native.Nat.{ℕ}
+use Rattle.limit.specs.Checked.{Checked, checked}
 use Rattle.text.specs.declared.Span.{Span}
+use Rattle.grammar.specs.Building.{withConstraint}
+use Rattle.grammar.specs.declared.Builder.{Builder}
 use Rattle.table.specs.Reader.{anyWord, longName, badNumber, twice}
 use Rattle.table.specs.declared.Flaws.{Flaws}
+use Rattle.table.specs.declared.LineRead.{LineRead}
 
-abbrev pub none : Flaws
-none = record { long = false; bad = false; twice = false }
+-- the table so far with what a line says
+abbrev pub lineRead : ℕ → Builder → LineRead → Checked Builder
+lineRead n b r = checked (r .outcome) (withConstraint b (r .names) n (r .constraint))
 
 -- of some words, one of which is to fail; of one word, with those after it; and of either
 abbrev pub flawsOf : List ℕ → List Span → Flaws

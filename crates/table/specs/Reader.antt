@@ -59,7 +59,7 @@ unfoldable pub addLine : ℕ → Builder → Names → Constraint → Checked Bu
 addLine n b ns r =
     refuseIf (any (bits (b .defined)) (definedOf r)) DefinedTwice n
     (refuseIf (ns .over) TableClocks n
-    (refuseIf (leb 64 (b .table .count)) TableConstraints n
+    (refuseIf (leb 64 (b .count)) TableConstraints n
     (passed (withConstraint b ns n r))))
 
 -- 12 no form fits; then 13, 14, 15, and 16 to 18
@@ -73,7 +73,7 @@ formStep t n b ws (parsed f us) =
 
 -- the clocks are numbered in the order in which the words stand
 abbrev pub wordsStep : List ℕ → ℕ → Builder → List Span → Checked Builder
-wordsStep t n b ws = formStep t n b ws (formIn t (withWords t (b .table .names) ws) ws)
+wordsStep t n b ws = formStep t n b ws (formIn t (withWords t (b .names) ws) ws)
 
 -- 11 byte outside 32 to 126. t is the text up to the line's end, from the line's start
 abbrev pub filledStep : List ℕ → ℕ → Builder → ℕ → Checked Builder

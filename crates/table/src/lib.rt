@@ -3,7 +3,8 @@
 
 mod reader;
 
-use grammar::Builder;
+use constraint::Constraint;
+use grammar::Names;
 use grammar::Table;
 use limit::Check;
 pub use reader::read_table;
@@ -21,8 +22,9 @@ pub struct Flaws {
     pub twice: bool,
 }
 
-// What a line does: the first refusal, or the table with it.
+// What a line says: the first refusal, or its constraint and the names with those of the line.
 pub struct LineRead {
     pub outcome: Check,
-    pub builder: Builder,
+    pub names: Names,
+    pub constraint: Constraint,
 }

@@ -23,11 +23,12 @@ use limit::Refusal;
 use text::Class;
 use text::Span;
 ghost use mathlib.Core.Path.{_≡_};
-ghost use Rattle.limit.specs.Checked.{stopped, checked};
+ghost use Rattle.limit.specs.Checked.{stopped};
 ghost use Rattle.text.specs.Split.{bytesOf};
 ghost use Rattle.grammar.specs.Grammar.{lineWords};
 ghost use Rattle.grammar.specs.Tokens.{tokenOf};
-ghost use Rattle.table.specs.Answers as f;
+ghost use Rattle.grammar.specs.declared.Builder.{Builder};
+ghost use Rattle.table.specs.Answers as a;
 ghost use Rattle.table.specs.Reader as d;
 
 // Whether a word stands again among those from an offset on.
@@ -52,7 +53,7 @@ fn stands_again(line: &[u8], word: Span, from: usize) -> bool
 // Which checks a word fails, by itself or with the words behind it.
 fn word_flaws(line: &[u8], word: WordRead) -> Flaws
     requires { ⌜ word .token ≡ tokenOf (bytesOf (now line) (word .span)) ⌝ }
-    ensures { λ r. ⌜ r ≡ f.wordFlaws (now (line .entry)) (word .span) (lineWords (now (line .entry)) (word .span .end)) ⌝ }
+    ensures { λ r. ⌜ r ≡ a.wordFlaws (now (line .entry)) (word .span) (lineWords (now (line .entry)) (word .span .end)) ⌝ }
 {
     let span = word.span;
     if is(Token::Name, word) {
@@ -80,7 +81,7 @@ fn word_flaws(line: &[u8], word: WordRead) -> Flaws
 
 // What either of two fails.
 fn either(one: Flaws, other: Flaws) -> Flaws
-    ensures { λ r. ⌜ r ≡ f.either one other ⌝ }
+    ensures { λ r. ⌜ r ≡ a.either one other ⌝ }
 {
     Flaws {
         long: one.long | other.long,
@@ -91,7 +92,7 @@ fn either(one: Flaws, other: Flaws) -> Flaws
 
 // Which checks the words from an offset on fail.
 fn flaws(line: &[u8], from: usize) -> Flaws
-    ensures { λ r. ⌜ r ≡ f.flawsOf (now (line .entry)) (lineWords (now (line .entry)) from) ⌝ }
+    ensures { λ r. ⌜ r ≡ a.flawsOf (now (line .entry)) (lineWords (now (line .entry)) from) ⌝ }
 {
     let mut found = Flaws {
         long: false,
@@ -111,55 +112,55 @@ fn flaws(line: &[u8], from: usize) -> Flaws
 }
 
 // The answer that a line breaks a limit.
-fn refuse(builder: Builder, limit: Limit, place: Place) -> LineRead
-    ensures { λ r. ⌜ checked (r .outcome) (r .builder) ≡ stopped limit (place .0) ⌝ }
+fn refuse(names: Names, limit: Limit, place: Place) -> LineRead
+    ensures { λ r. ⌜ ((b : Builder) → a.lineRead (place .0) b r ≡ stopped limit (place .0)) ⌝ }
 {
     LineRead {
         outcome: Check::Refused(Refusal { limit, place }),
-        builder,
+        names,
+        constraint: constraint::empty(),
     }
 }
 
 // Checks 16, 17 and 18 of a line's constraint.
 fn add_line(builder: Builder, names: Names, place: Place, constraint: Constraint) -> LineRead
-    ensures { λ r. ⌜ checked (r .outcome) (r .builder) ≡ d.addLine (place .0) builder names constraint ⌝ }
+    ensures { λ r. ⌜ a.lineRead (place .0) builder r ≡ d.addLine (place .0) builder names constraint ⌝ }
 {
     if constraint::defines_again(builder.defined, constraint) {
-        return refuse(builder, Limit::DefinedTwice, place);
+        return refuse(names, Limit::DefinedTwice, place);
     }
     if names.over {
-        return refuse(builder, Limit::TableClocks, place);
+        return refuse(names, Limit::TableClocks, place);
     }
-    let table = builder.table;
-    if 64 <= table.count {
-        return refuse(builder, Limit::TableConstraints, place);
+    if 64 <= builder.count {
+        return refuse(names, Limit::TableConstraints, place);
     }
     LineRead {
         outcome: Check::Passed,
-        builder: with_constraint(builder, names, place, constraint),
+        names,
+        constraint,
     }
 }
 
 // Checks 12 to 18 of a line's words.
 fn read_words(line: &[u8], builder: Builder, place: Place, from: usize) -> LineRead
-    ensures { λ r. ⌜ checked (r .outcome) (r .builder) ≡ d.wordsStep (now (line .entry)) (place .0) builder (lineWords (now (line .entry)) from) ⌝ }
+    ensures { λ r. ⌜ a.lineRead (place .0) builder r ≡ d.wordsStep (now (line .entry)) (place .0) builder (lineWords (now (line .entry)) from) ⌝ }
 {
-    let table = builder.table;
-    let before = table.names;
+    let before = builder.names;
     let names = with_words(line, before, from);
     let form = line_form(line, names, from);
     if !form.fits {
-        return refuse(builder, Limit::LineForm, place);
+        return refuse(names, Limit::LineForm, place);
     }
     let failed = flaws(line, from);
     if failed.long {
-        return refuse(builder, Limit::NameLength, place);
+        return refuse(names, Limit::NameLength, place);
     }
     if failed.bad {
-        return refuse(builder, Limit::AwaitNumber, place);
+        return refuse(names, Limit::AwaitNumber, place);
     }
     if failed.twice {
-        return refuse(builder, Limit::ClockTwice, place);
+        return refuse(names, Limit::ClockTwice, place);
     }
     let constraint = form.constraint;
     add_line(builder, names, place, constraint)
@@ -167,10 +168,11 @@ fn read_words(line: &[u8], builder: Builder, place: Place, from: usize) -> LineR
 
 // A line that is not blank, from an offset of the text that ends with it.
 fn read_line(line: &[u8], builder: Builder, place: Place, from: usize) -> LineRead
-    ensures { λ r. ⌜ checked (r .outcome) (r .builder) ≡ d.filledStep (now (line .entry)) (place .0) builder from ⌝ }
+    ensures { λ r. ⌜ a.lineRead (place .0) builder r ≡ d.filledStep (now (line .entry)) (place .0) builder from ⌝ }
 {
     if !text::all_from(Class::Printable, line, from) {
-        return refuse(builder, Limit::LineByte, place);
+        let names = builder.names;
+        return refuse(names, Limit::LineByte, place);
     }
     read_words(line, builder, place, from)
 }
@@ -210,7 +212,9 @@ pub fn read_table(text: &[u8]) -> TableRead
         if let Check::Refused(refusal) = outcome {
             return refused(refusal);
         }
-        builder = step.builder;
+        let names = step.names;
+        let constraint = step.constraint;
+        builder = with_constraint(builder, names, Place(line), constraint);
         line += 1;
         at = end + 1;
     }

@@ -7,4 +7,4 @@ start-spec =
     tie.close
     (tie.spec
     (λ c κs. tt)
-    (λ c. rw (c .empty-table .ensures)))
+    (λ c. rw (c .before .before .empty-table .ensures)))

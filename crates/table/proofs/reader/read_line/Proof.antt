@@ -9,9 +9,9 @@ use Rattle.table.proofs.reader.read_line.Tie as tie
 
 returns : tie.Need-returns
 returns c =
-    let a = c .before .before in
+    let a = c .before .before .before in
     let s = a .before .before .args in
-    c .refuse .ensures ∙ sym (refused-11 (now (s .line)) (s .place .0) (s .builder) (s .from) (sym (a .all-from .ensures) ∙ not-true _ (c .before .if1 .taken)))
+    c .refuse .ensures (s .builder) ∙ sym (refused-11 (now (s .line)) (s .place .0) (s .builder) (s .from) (sym (a .all-from .ensures) ∙ not-true _ (c .before .before .if1 .taken)))
 
 returns-2 : tie.Need-returns-2
 returns-2 c =

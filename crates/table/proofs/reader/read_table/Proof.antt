@@ -10,10 +10,11 @@ use Rattle.text.specs.Bytes.{passes}
 use Rattle.text.specs.declared.Class.the-variants.{Newline}
 use Rattle.text.proofs.Runs.{run-from, run-within}
 use mathlib.Core.Bool.{false}
-use Rattle.limit.specs.Checked.{passed, stopped, checked}
+use Rattle.limit.specs.Checked.{passed, stopped}
 use Rattle.limit.specs.declared.Limit.{Limit}
 use Rattle.limit.proofs.CheckLaws.{stops}
 use Rattle.grammar.specs.declared.Builder.{Builder}
+use Rattle.table.specs.Answers.{lineRead}
 use Rattle.table.specs.Reader.{lineStep, tellOf, mostBytes, readTable}
 use Rattle.table.proofs.ReaderLaws.{LinesFrom, line-blank, line-filled, lines-done, lines-stop, lines-on, refused-10, table-lines}
 use Rattle.table.proofs.reader.read_table.Statement.{statement}
@@ -49,7 +50,7 @@ module _ (e : tie.After-run-end Inv-loop μ-loop) where
 
 -- a line that is not blank does what reading it says
 stepped : (r : tie.After-read-line Inv-loop μ-loop) → (let e = r .before .before .before .before .before in let k = l e in
-    lineStep (take (e .run-end .result) (text k)) (k .loop .line) (k .loop .builder) (k .loop .at) ≡ checked (r .read-line .result .outcome) (r .read-line .result .builder))
+    lineStep (take (e .run-end .result) (text k)) (k .loop .line) (k .loop .builder) (k .loop .at) ≡ lineRead (k .loop .line) (k .loop .builder) (r .read-line .result))
 stepped r =
     let f = r .before .before in
     let k = l (f .before .before .before) in
@@ -73,9 +74,9 @@ returns-2 c =
 
 loop-again-2 : tie.Need-loop-again-2 Inv-loop μ-loop
 loop-again-2 c =
-    let r = c .before .before .before in
+    let r = c .before .before .before .before .before in
     let e = r .before .before .before .before .before in
-    (omega (arith, end-from e), l e .loop .inv .1, on-it-goes e _ (stepped r ∙ rw (c .before .enum-told .given .1)))
+    (omega (arith, end-from e), l e .loop .inv .1, rw (c .with-constraint .ensures) (on-it-goes e _ (stepped r ∙ rw (c .before .before .before .enum-told .given .1))))
 
 returns-3 : tie.Need-returns-3 Inv-loop μ-loop
 returns-3 c =
@@ -105,9 +106,10 @@ read-table-spec =
     (λ c κs. tt)
     returns-2
     (λ c. c .match .keys2)
-    (λ c. omega (arith, end-within (c .before .before .before .before .before .before .before .before)))
-    (λ c. omega (arith, end-within (c .before .before .before .before .before .before .before .before)))
-    (λ c. omega (arith, end-from (c .before .before .before .before .before .before .before .before)))
+    (λ c κs. tt)
+    (λ c. omega (arith, end-within (c .before .before .before .before .before .before .before .before .before .before)))
+    (λ c. omega (arith, end-within (c .before .before .before .before .before .before .before .before .before .before)))
+    (λ c. omega (arith, end-from (c .before .before .before .before .before .before .before .before .before .before)))
     loop-again-2
     (λ c κs. tt)
     returns-3)

@@ -14,14 +14,14 @@ use Rattle.table.proofs.reader.read_words.Statement.{statement}
 use Rattle.table.proofs.reader.read_words.Tie as tie
 
 abbrev start : tie.After-line-form → tie.Start
-start f = f .before .before .before .before .before
+start f = f .before .before .before .before
 
 -- what the line's form was read as
-form : (f : tie.After-line-form) → (let s = start f .args in let t = now (s .line) in let ns = withWords t (s .builder .table .names) (lineWords t (s .from)) in
+form : (f : tie.After-line-form) → (let s = start f .args in let t = now (s .line) in let ns = withWords t (s .builder .names) (lineWords t (s .from)) in
     formRead t ns (f .line-form .result) ≡ formIn t ns (lineWords t (s .from)))
 form f = rw (← f .before .with-words .ensures) (f .line-form .ensures)
 
-fits : (e : tie.Else1) → (let f = e .before .before in let s = start f .args in let t = now (s .line) in let ns = withWords t (s .builder .table .names) (lineWords t (s .from)) in
+fits : (e : tie.Else1) → (let f = e .before .before in let s = start f .args in let t = now (s .line) in let ns = withWords t (s .builder .names) (lineWords t (s .from)) in
     formIn t ns (lineWords t (s .from)) ≡ parsed (record { left = ns; constraint = f .line-form .result .constraint }) (lineWords t (f .line-form .result .at)))
 fits e = let f = e .before .before in sym (form f) ∙ form-is (now (start f .args .line)) _ (f .line-form .result) (not-false _ (e .if1 .left))
 
@@ -42,25 +42,25 @@ module _ (w : tie.After-flaws) where
 returns : tie.Need-returns
 returns c =
     let f = c .before .before .before in
-    c .refuse .ensures ∙ sym (refused-12 _ _ _ _ _ (sym (form f) ∙ form-not (now (start f .args .line)) _ (f .line-form .result) (not-true _ (c .before .if1 .taken))))
+    c .refuse .ensures (start f .args .builder) ∙ sym (refused-12 _ _ _ _ _ (sym (form f) ∙ form-not (now (start f .args .line)) _ (f .line-form .result) (not-true _ (c .before .if1 .taken))))
 
 returns-2 : tie.Need-returns-2
 returns-2 c =
     let w = c .before .before in
-    c .refuse2 .ensures ∙ sym (refused-13 _ _ _ _ _ _ _ (fits (w .before)) (sym (long-is w) ∙ c .before .if2 .taken))
+    c .refuse2 .ensures (s w .args .builder) ∙ sym (refused-13 _ _ _ _ _ _ _ (fits (w .before)) (sym (long-is w) ∙ c .before .if2 .taken))
 
 returns-3 : tie.Need-returns-3
 returns-3 c =
     let e = c .before .before in
     let w = e .before in
-    c .refuse3 .ensures ∙ sym (refused-14 _ _ _ _ _ _ _ (fits (w .before)) (sym (long-is w) ∙ e .if2 .left) (sym (bad-is w) ∙ c .before .if3 .taken))
+    c .refuse3 .ensures (s w .args .builder) ∙ sym (refused-14 _ _ _ _ _ _ _ (fits (w .before)) (sym (long-is w) ∙ e .if2 .left) (sym (bad-is w) ∙ c .before .if3 .taken))
 
 returns-4 : tie.Need-returns-4
 returns-4 c =
     let f = c .before .before in
     let e = f .before in
     let w = e .before in
-    c .refuse4 .ensures ∙ sym (refused-15 _ _ _ _ _ _ _ (fits (w .before)) (sym (long-is w) ∙ e .if2 .left) (sym (bad-is w) ∙ f .if3 .left) (sym (twice-is w) ∙ c .before .if4 .taken))
+    c .refuse4 .ensures (s w .args .builder) ∙ sym (refused-15 _ _ _ _ _ _ _ (fits (w .before)) (sym (long-is w) ∙ e .if2 .left) (sym (bad-is w) ∙ f .if3 .left) (sym (twice-is w) ∙ c .before .if4 .taken))
 
 returns-5 : tie.Need-returns-5
 returns-5 c =
