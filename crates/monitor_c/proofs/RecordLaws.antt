@@ -14,7 +14,9 @@ use Rattle.constraint.specs.declared.Configuration.{Configuration}
 use Rattle.constraint.specs.declared.Constraint.{Constraint}
 use Rattle.constraint.specs.declared.Word.{Word}
 use Rattle.lent.specs.Lent.{lent}
+use Rattle.lent.specs.Start.{startOf}
 use Rattle.lent.proofs.First66.{step-first-66, place-first-66}
+use Rattle.lent.proofs.StartLaws.{start-first-66}
 use Rattle.judging.specs.Single.{stepOf}
 use Rattle.monitor_c.specs.Numbers.{atMost, recordOf, recordsOf, sixes, sixAt}
 use Rattle.monitor_c.proofs.ListLaws.{one-more, sets-written, sets-all}
@@ -83,10 +85,16 @@ lent-records rs = go (leb (length rs) 66) refl
         let many : 66 < length rs = leb-false (length rs) 66 e in
         rw (sets-all rs (replicate 66 empty) (omega (arith, many))) (take-take 66 66 rs (omega arith))
 
+lent-numbers : (ns : List ℕ) → lent (length ns / 6) (sets (replicate 66 empty) 0 (recordsOf ns)) ≡ take 66 (recordsOf ns)
+lent-numbers ns = rw (how-many ns, sym (length-map (sixes ns) recordOf)) (lent-records (recordsOf ns))
+
+pub start-lent : (clocks : ℕ) (ns : List ℕ) → startOf clocks (lent (length ns / 6) (sets (replicate 66 empty) 0 (recordsOf ns))) ≡ startOf clocks (recordsOf ns)
+start-lent clocks ns = rw (lent-numbers ns) (start-first-66 clocks (recordsOf ns))
+
 pub step-lent : (clocks : ℕ) (ns : List ℕ) (c : Configuration) (f : ℕ)
     → stepOf clocks (lent (length ns / 6) (sets (replicate 66 empty) 0 (recordsOf ns))) c f ≡ stepOf clocks (recordsOf ns) c f
-step-lent clocks ns c f = rw (how-many ns, sym (length-map (sixes ns) recordOf), lent-records (recordsOf ns)) (step-first-66 clocks (recordsOf ns) c f)
+step-lent clocks ns c f = rw (lent-numbers ns) (step-first-66 clocks (recordsOf ns) c f)
 
 pub place-lent : (clocks : ℕ) (ns : List ℕ) (ws vs : List Word)
     → samePlaceOf clocks (lent (length ns / 6) (sets (replicate 66 empty) 0 (recordsOf ns))) ws vs ≡ samePlaceOf clocks (recordsOf ns) ws vs
-place-lent clocks ns ws vs = rw (how-many ns, sym (length-map (sixes ns) recordOf), lent-records (recordsOf ns)) (place-first-66 clocks (recordsOf ns) ws vs)
+place-lent clocks ns ws vs = rw (lent-numbers ns) (place-first-66 clocks (recordsOf ns) ws vs)
