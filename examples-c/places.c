@@ -58,14 +58,14 @@ static void print_words(const int64_t *words)
     printf("\n");
 }
 
-/* Single steps begin with the table's start words: what a run of a recording of length 0 leaves, since it is refused before any step. */
+/* Puts a machine's monitor at the table's start words. */
 static void start(int64_t *words)
 {
-    uint64_t answer[CCSL_RUN_ANSWER];
-    check(ccsl_run((const uint8_t *)text, strlen(text), (const uint8_t *)"", 0, answer, CCSL_RUN_ANSWER, words, CCSL_WORDS));
+    uint64_t answer[CCSL_START_ANSWER];
+    check(ccsl_start_words(records, constraints * CCSL_RECORD, (uint32_t)clocks, words, CCSL_WORDS, answer, CCSL_START_ANSWER));
 }
 
-/* Takes one step and prints how it was judged, and the configuration after it. */
+/* Moves a monitor one step forward and prints how the step was judged, and where the monitor then stands. */
 static void step(int64_t *words, uint32_t set)
 {
     uint64_t answer[CCSL_STEP_ANSWER];

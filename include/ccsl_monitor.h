@@ -29,13 +29,13 @@ enum {
     CCSL_WORDS_SHORT = 2,    /* a configuration has fewer than CCSL_WORDS words */
     CCSL_RECORDS_SHORT = 3,  /* ccsl_read_table: `records` has fewer than CCSL_RECORDS * CCSL_RECORD numbers */
     CCSL_NAMES_SHORT = 4,    /* ccsl_read_table: `names` has fewer than CCSL_CLOCKS * 2 numbers */
-    CCSL_RECORDS_RAGGED = 5, /* ccsl_step, ccsl_same_place: the numbers of `records` do not come in sixes */
+    CCSL_RECORDS_RAGGED = 5, /* the calls on records: the numbers of `records` do not come in sixes */
     CCSL_KIND_UNKNOWN = 6    /* the same calls: a record's kind is above CCSL_UPTO */
 };
 
 /* The first number of every answer. */
 enum {
-    CCSL_ACCEPTED = 0, /* of ccsl_read_table: the table was read; of ccsl_same_place: the same place */
+    CCSL_ACCEPTED = 0, /* of ccsl_read_table: the table was read; of ccsl_start_words: started; of ccsl_same_place: the same place */
     CCSL_VIOLATED = 1, /* of ccsl_same_place: different places */
     CCSL_REFUSED = 2
 };
@@ -48,6 +48,7 @@ enum {
     CCSL_CLOCKS = 32,     /* clocks of a table */
     CCSL_RUN_ANSWER = 5,  /* numbers of the answers */
     CCSL_READ_ANSWER = 5,
+    CCSL_START_ANSWER = 3,
     CCSL_STEP_ANSWER = 3,
     CCSL_PLACE_ANSWER = 3
 };
@@ -75,8 +76,7 @@ enum {
 /* Judges a recording by a table.
  * answer, 5 numbers: CCSL_ACCEPTED, 0, 0; or CCSL_VIOLATED, the table line, the recorded time; or CCSL_REFUSED, the limit's number, the
  * place; then the number of accepted steps and the number of constraints, both 0 where the table was refused.
- * words, 64 words: the configuration after the accepted steps, all 0 where the table was refused. A recording of length 0 is refused, with
- * 36, and leaves the table's start words: single steps begin with them (examples-c/places.c).
+ * words, 64 words: the configuration after the accepted steps, all 0 where the table was refused.
  * CCSL_ANSWER_SHORT, CCSL_WORDS_SHORT. */
 uint32_t ccsl_run(const uint8_t *table, size_t table_len,
                   const uint8_t *recording, size_t recording_len,
@@ -95,11 +95,24 @@ uint32_t ccsl_read_table(const uint8_t *text, size_t text_len,
                          uint64_t *records, size_t records_len,
                          uint64_t *names, size_t names_len);
 
-/* One step on a configuration, which is moved where it stands if the step is accepted, and left alone else. Clock k ticks where bit k of
- * `ticks` is 1. records_len counts numbers, six a record.
- * answer, 3 numbers: CCSL_ACCEPTED, 0, 0; or CCSL_VIOLATED, the record from 1, 0; or CCSL_REFUSED, the limit's number, the place.
+/* A monitor is its configuration alone, 64 words, which the caller keeps. ccsl_start_words gives it the start words of records, and ccsl_step
+ * moves it forward where it stands (examples-c/places.c has two of them). The records are lent to each call: those that ccsl_read_table
+ * wrote, with the clock count that it answered, or any made by hand. */
+
+/* Puts a monitor at the start of records. records_len counts numbers, six a record.
+ * answer, 3 numbers: CCSL_ACCEPTED, 0, 0; or CCSL_REFUSED, 59, the place, exactly where every step on these records is refused so.
+ * words, 64 words: the start word of each record, the rest 0; all 0 where the records are refused.
  * CCSL_ANSWER_SHORT, CCSL_WORDS_SHORT, CCSL_RECORDS_RAGGED, CCSL_KIND_UNKNOWN. More than 64 records, all of a known kind, are refused with
  * 59, at the first that is bad, else at 65. */
+uint32_t ccsl_start_words(const uint64_t *records, size_t records_len,
+                          uint32_t clocks,
+                          int64_t *words, size_t words_len,
+                          uint64_t *answer, size_t answer_len);
+
+/* One step of a monitor: `words` are moved where they stand if the step is accepted, and left alone else. Clock k ticks where bit k of
+ * `ticks` is 1.
+ * answer, 3 numbers: CCSL_ACCEPTED, 0, 0; or CCSL_VIOLATED, the record from 1, 0; or CCSL_REFUSED, the limit's number, the place.
+ * CCSL_ANSWER_SHORT, CCSL_WORDS_SHORT, CCSL_RECORDS_RAGGED, CCSL_KIND_UNKNOWN, as in ccsl_start_words. */
 uint32_t ccsl_step(const uint64_t *records, size_t records_len,
                    uint32_t clocks,
                    int64_t *words, size_t words_len,
@@ -109,7 +122,7 @@ uint32_t ccsl_step(const uint64_t *records, size_t records_len,
 /* Whether two configurations stand at the same place: no record, judged by itself, tells them apart by any continuation. All of the first
  * configuration is tested before the second.
  * answer, 3 numbers: CCSL_ACCEPTED, 0, 0, the same; or CCSL_VIOLATED, 0, 0, different; or CCSL_REFUSED, the limit's number, the place.
- * CCSL_ANSWER_SHORT, CCSL_WORDS_SHORT, CCSL_RECORDS_RAGGED, CCSL_KIND_UNKNOWN, as in ccsl_step. */
+ * CCSL_ANSWER_SHORT, CCSL_WORDS_SHORT, CCSL_RECORDS_RAGGED, CCSL_KIND_UNKNOWN, as in ccsl_start_words. */
 uint32_t ccsl_same_place(const uint64_t *records, size_t records_len,
                          uint32_t clocks,
                          const int64_t *first, size_t first_len,

@@ -54,7 +54,7 @@ module _ {T : Type 0} (clocks : ℕ) (asked : List Constraint → Broken → T) 
   by-broken rs Nowhere e many = absurd (many-broken clocks rs many e)
   by-broken rs (At p) e many = stops p (take 66 rs) rs
 
-  asked-take : (rs : List Constraint) → asked (take 66 rs) (brokenRecord clocks (take 66 rs)) ≡ asked rs (brokenRecord clocks rs)
+  pub asked-take : (rs : List Constraint) → asked (take 66 rs) (brokenRecord clocks (take 66 rs)) ≡ asked rs (brokenRecord clocks rs)
   asked-take rs = go (leb (length rs) 66) refl
     where
       go : (x : Bool) → leb (length rs) 66 ≡ x → asked (take 66 rs) (brokenRecord clocks (take 66 rs)) ≡ asked rs (brokenRecord clocks rs)

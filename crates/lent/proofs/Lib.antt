@@ -7,6 +7,7 @@ pub mod LentLaws
 pub mod LentMonitor
 pub mod LentTypes
 pub mod Prefix
+pub mod StartLaws
 pub mod SurveyLaws
 pub mod VisitLaws
 pub mod While

@@ -1,6 +1,7 @@
 // The single step and the same-place question on lent records, and the monitor that is lent and moved forward where it stands.
 
 mod lent;
+mod start;
 mod visits;
 
 use constraint::Broken;
@@ -12,6 +13,8 @@ pub use lent::same_place;
 pub use lent::same_place_on;
 pub use lent::step;
 pub use lent::step_on;
+use limit::Check;
+pub use start::start_on;
 
 // What is known of the records so far: the words after the step, the clocks that they define, and the lowest place of a record that does
 // not fit, of a word out of range, of a record that fails, and of a word that leaves its range.
@@ -36,5 +39,11 @@ pub struct Monitor {
 // A single step's answer, and the monitor after it.
 pub struct Advanced {
     pub answer: StepAnswer,
+    pub monitor: Monitor,
+}
+
+// Whether records have start words, which limit 59 decides, and a monitor with them, or with zeros where they are refused.
+pub struct Started {
+    pub outcome: Check,
     pub monitor: Monitor,
 }

@@ -10,9 +10,8 @@ use lib.ListN.{length, set}
 use Rattle.constraint.specs.SamePlace.{samePlaceOf}
 use Rattle.table.specs.Reader.{readTable}
 use Rattle.run.specs.Run.{runOf}
-use Rattle.judging.specs.Single.{stepOf}
 use Rattle.monitor_c.specs.declared.Three.{Three}
-use Rattle.monitor_c.specs.Calls.{written, answerShort, wordsShort, recordsShort, namesShort, recordsRagged, kindUnknown, left, runLeft, runInto, tableLeft, readLeft, readInto, stepLeft, stepInto, answerLeft, placeLeft, placeInto}
+use Rattle.monitor_c.specs.Calls.{written, answerShort, wordsShort, recordsShort, namesShort, recordsRagged, kindUnknown, Left, left, runLeft, runInto, tableLeft, readLeft, readInto, onRecords, answerLeft, placeLeft, placeInto}
 use Rattle.monitor_c.specs.Numbers.{clockOf, recordsOf, kindsKnown, configurationOf, threeAnd}
 
 -- an answer of three numbers, with two behind it
@@ -58,29 +57,28 @@ module _ (t out rs ns : List ℕ) where
   unfolding readInto
   read-done a b c = rw (le-ltb (length out) 5 a, le-ltb (length rs) 384 b, le-ltb (length ns) 64 c) refl
 
--- ---- ccsl_step
+-- ---- ccsl_start_words and ccsl_step
 
-module _ (ns : List ℕ) (clocks f : ℕ) (out : List ℕ) (ws : List ℤ) where
-  pub step-answer-short : length out < 3 → left answerShort out ws ≡ stepInto ns clocks f out ws
-  unfolding stepInto
-  step-answer-short a = rw (lt-ltb (length out) 3 a) refl
+module _ (ns out : List ℕ) (ws : List ℤ) (l : Left) where
+  pub answer-short : length out < 3 → left answerShort out ws ≡ onRecords ns out ws l
+  unfolding onRecords
+  answer-short a = rw (lt-ltb (length out) 3 a) refl
 
-  pub step-words-short : 3 ≤ length out → length ws < 64 → left wordsShort out ws ≡ stepInto ns clocks f out ws
-  unfolding stepInto
-  step-words-short a w = rw (le-ltb (length out) 3 a, lt-ltb (length ws) 64 w) refl
+  pub words-short : 3 ≤ length out → length ws < 64 → left wordsShort out ws ≡ onRecords ns out ws l
+  unfolding onRecords
+  words-short a w = rw (le-ltb (length out) 3 a, lt-ltb (length ws) 64 w) refl
 
-  pub step-ragged : 3 ≤ length out → 64 ≤ length ws → (length ns % 6 ≡ 0 → ⊥) → left recordsRagged out ws ≡ stepInto ns clocks f out ws
-  unfolding stepInto
-  step-ragged a w r = rw (le-ltb (length out) 3 a, le-ltb (length ws) 64 w, ne-eqb (length ns % 6) 0 r) refl
+  pub records-ragged : 3 ≤ length out → 64 ≤ length ws → (length ns % 6 ≡ 0 → ⊥) → left recordsRagged out ws ≡ onRecords ns out ws l
+  unfolding onRecords
+  records-ragged a w r = rw (le-ltb (length out) 3 a, le-ltb (length ws) 64 w, ne-eqb (length ns % 6) 0 r) refl
 
-  pub step-unknown : 3 ≤ length out → 64 ≤ length ws → length ns % 6 ≡ 0 → kindsKnown ns ≡ false → left kindUnknown out ws ≡ stepInto ns clocks f out ws
-  unfolding stepInto
-  step-unknown a w r k = rw (le-ltb (length out) 3 a, le-ltb (length ws) 64 w, eq-eqb (length ns % 6) 0 r, k) refl
+  pub kind-unknown : 3 ≤ length out → 64 ≤ length ws → length ns % 6 ≡ 0 → kindsKnown ns ≡ false → left kindUnknown out ws ≡ onRecords ns out ws l
+  unfolding onRecords
+  kind-unknown a w r k = rw (le-ltb (length out) 3 a, le-ltb (length ws) 64 w, eq-eqb (length ns % 6) 0 r, k) refl
 
-  pub step-done : 3 ≤ length out → 64 ≤ length ws → length ns % 6 ≡ 0 → kindsKnown ns ≡ true
-      → stepLeft (stepOf (clockOf clocks) (recordsOf ns) (configurationOf ws) f) out ws ≡ stepInto ns clocks f out ws
-  unfolding stepInto
-  step-done a w r k = rw (le-ltb (length out) 3 a, le-ltb (length ws) 64 w, eq-eqb (length ns % 6) 0 r, k) refl
+  pub in-shape : 3 ≤ length out → 64 ≤ length ws → length ns % 6 ≡ 0 → kindsKnown ns ≡ true → l ≡ onRecords ns out ws l
+  unfolding onRecords
+  in-shape a w r k = rw (le-ltb (length out) 3 a, le-ltb (length ws) 64 w, eq-eqb (length ns % 6) 0 r, k) refl
 
 -- ---- ccsl_same_place
 

@@ -6,8 +6,9 @@ use native.Mathlib.Nat.{zero-add}
 use native.Mathlib.Numerals.{add-one}
 use native.Mathlib.Omega.{arith}
 use lib.ListN.{length, drop, take, getD, set, take-append-drop}
-use lib.Seq.{sets, sets-eq, set-out, drop-cons, length-take-le, length-sets, drop-length}
+use lib.Seq.{sets, sets-eq, set-out, length-take-le, length-sets, drop-length}
 use Rattle.text.specs.declared.Span.{Span}
+use Rattle.text.proofs.Bytes.{drop-next}
 use Rattle.constraint.specs.declared.Constraint.{Constraint}
 use Rattle.monitor_c.specs.Calls.{written}
 use Rattle.monitor_c.specs.Numbers.{recordNumbers, nameNumbers}
@@ -36,28 +37,24 @@ sets-all vs xs enough =
     ∙ sets-written us xs (omega (arith, e))
     ∙ rw (e, drop-length xs) (append-nil us)
 
--- one element further on
-pub one-more : {A : Type 0} (xs : List A) (i : ℕ) (d : A) → i < length xs → drop i xs ≡ getD xs i d ∷ drop (i + 1) xs
-one-more xs i d inside = drop-cons xs i d inside ∙ ap (λ (k : ℕ). getD xs i d ∷ drop k xs) (sym (add-one i))
-
 -- what is left to store, with one element more stored
 pub store-more : {A B : Type 0} (f : A → B) (vs : List A) (xs : List B) (i : ℕ) (d : A) → i < length vs
     → sets xs i (map f (drop i vs)) ≡ sets (set xs i (f (getD vs i d))) (i + 1) (map f (drop (i + 1) vs))
-store-more f vs xs i d inside = rw (one-more vs i d inside, add-one i) refl
+store-more f vs xs i d inside = rw (drop-next vs i d inside, add-one i) refl
 
 -- six places a record
 pub records-more : (rs : List Constraint) (xs : List ℕ) (i : ℕ) (d : Constraint) → i < length rs
     → sets xs (6 * i) (recordNumbers (drop i rs)) ≡ sets (sets xs (6 * i) (recordNumbers (getD rs i d ∷ []))) (6 * (i + 1)) (recordNumbers (drop (i + 1) rs))
 records-more rs xs i d inside =
     let e : 6 * (i + 1) ≡ suc (suc (suc (suc (suc (suc (6 * i)))))) = omega arith in
-    rw (one-more rs i d inside, e) refl
+    rw (drop-next rs i d inside, e) refl
 
 -- two places a name
 pub names-more : (ps : List Span) (xs : List ℕ) (i : ℕ) (d : Span) → i < length ps
     → sets xs (2 * i) (nameNumbers (drop i ps)) ≡ sets (set (set xs (2 * i) (getD ps i d .start)) (2 * i + 1) (getD ps i d .end)) (2 * (i + 1)) (nameNumbers (drop (i + 1) ps))
 names-more ps xs i d inside =
     let e : 2 * (i + 1) ≡ suc (suc (2 * i)) = omega arith in
-    rw (one-more ps i d inside, e, add-one (2 * i)) refl
+    rw (drop-next ps i d inside, e, add-one (2 * i)) refl
 
 pub map-take : {A B : Type 0} (f : A → B) (n : ℕ) (xs : List A) → map f (take n xs) ≡ take n (map f xs)
 map-take f zero xs = refl

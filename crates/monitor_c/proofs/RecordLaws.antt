@@ -14,10 +14,13 @@ use Rattle.constraint.specs.declared.Configuration.{Configuration}
 use Rattle.constraint.specs.declared.Constraint.{Constraint}
 use Rattle.constraint.specs.declared.Word.{Word}
 use Rattle.lent.specs.Lent.{lent}
+use Rattle.lent.specs.Start.{startOf}
 use Rattle.lent.proofs.First66.{step-first-66, place-first-66}
+use Rattle.lent.proofs.StartLaws.{start-first-66}
 use Rattle.judging.specs.Single.{stepOf}
 use Rattle.monitor_c.specs.Numbers.{atMost, recordOf, recordsOf, sixes, sixAt}
-use Rattle.monitor_c.proofs.ListLaws.{one-more, sets-written, sets-all}
+use Rattle.text.proofs.Bytes.{drop-next}
+use Rattle.monitor_c.proofs.ListLaws.{sets-written, sets-all}
 
 -- fewer than six numbers are no record
 few : (ns : List ℕ) → length ns < 6 → sixes ns ≡ []
@@ -41,7 +44,7 @@ six-more ns i room =
     let e4 : i + 3 + 1 ≡ i + 4 = omega arith in
     let e5 : i + 4 + 1 ≡ i + 5 = omega arith in
     let e6 : i + 5 + 1 ≡ i + 6 = omega arith in
-    rw (one-more ns i 0 (omega (arith, room)), one-more ns (i + 1) 0 (omega (arith, room)), e2, one-more ns (i + 2) 0 (omega (arith, room)), e3, one-more ns (i + 3) 0 (omega (arith, room)), e4, one-more ns (i + 4) 0 (omega (arith, room)), e5, one-more ns (i + 5) 0 (omega (arith, room)), e6)
+    rw (drop-next ns i 0 (omega (arith, room)), drop-next ns (i + 1) 0 (omega (arith, room)), e2, drop-next ns (i + 2) 0 (omega (arith, room)), e3, drop-next ns (i + 3) 0 (omega (arith, room)), e4, drop-next ns (i + 4) 0 (omega (arith, room)), e5, drop-next ns (i + 5) 0 (omega (arith, room)), e6)
     refl
 
 -- six numbers a record, and fewer than six left
@@ -83,10 +86,16 @@ lent-records rs = go (leb (length rs) 66) refl
         let many : 66 < length rs = leb-false (length rs) 66 e in
         rw (sets-all rs (replicate 66 empty) (omega (arith, many))) (take-take 66 66 rs (omega arith))
 
+lent-numbers : (ns : List ℕ) → lent (length ns / 6) (sets (replicate 66 empty) 0 (recordsOf ns)) ≡ take 66 (recordsOf ns)
+lent-numbers ns = rw (how-many ns, sym (length-map (sixes ns) recordOf)) (lent-records (recordsOf ns))
+
+pub start-lent : (clocks : ℕ) (ns : List ℕ) → startOf clocks (lent (length ns / 6) (sets (replicate 66 empty) 0 (recordsOf ns))) ≡ startOf clocks (recordsOf ns)
+start-lent clocks ns = rw (lent-numbers ns) (start-first-66 clocks (recordsOf ns))
+
 pub step-lent : (clocks : ℕ) (ns : List ℕ) (c : Configuration) (f : ℕ)
     → stepOf clocks (lent (length ns / 6) (sets (replicate 66 empty) 0 (recordsOf ns))) c f ≡ stepOf clocks (recordsOf ns) c f
-step-lent clocks ns c f = rw (how-many ns, sym (length-map (sixes ns) recordOf), lent-records (recordsOf ns)) (step-first-66 clocks (recordsOf ns) c f)
+step-lent clocks ns c f = rw (lent-numbers ns) (step-first-66 clocks (recordsOf ns) c f)
 
 pub place-lent : (clocks : ℕ) (ns : List ℕ) (ws vs : List Word)
     → samePlaceOf clocks (lent (length ns / 6) (sets (replicate 66 empty) 0 (recordsOf ns))) ws vs ≡ samePlaceOf clocks (recordsOf ns) ws vs
-place-lent clocks ns ws vs = rw (how-many ns, sym (length-map (sixes ns) recordOf), lent-records (recordsOf ns)) (place-first-66 clocks (recordsOf ns) ws vs)
+place-lent clocks ns ws vs = rw (lent-numbers ns) (place-first-66 clocks (recordsOf ns) ws vs)

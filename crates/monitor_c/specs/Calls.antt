@@ -7,10 +7,13 @@ use lib.IntN.{ℤ}
 use lib.ListN.{length, drop}
 use Rattle.constraint.specs.SamePlace as place
 use Rattle.constraint.specs.SamePlace.{samePlaceOf}
+use Rattle.constraint.specs.declared.Configuration.{Configuration}
 use Rattle.table.specs.Reader as table
 use Rattle.run.specs.Run as run
 use Rattle.judging.specs.Single as single
-use Rattle.monitor_c.specs.Numbers.{clockOf, recordsOf, kindsKnown, recordNumbers, nameNumbers, configurationOf, wordNumbers, ofRun, ofTable, ofStep, ofPlace, threeAnd}
+use Rattle.lent.specs.Start as start
+use Rattle.monitor_c.specs.Numbers.{clockOf, recordsOf, kindsKnown, recordNumbers, nameNumbers, configurationOf, wordNumbers, ofRun, ofTable, ofStart, ofStep, ofPlace, threeAnd}
+use Rattle.monitor_c.specs.declared.Three.{Three}
 
 -- numbers, in the place of the first of a list; the rest is left alone
 abbrev pub written : {A : Type 0} → List A → List A → List A
@@ -92,18 +95,32 @@ readInto t out rs ns =
     (cond (short ns 64) (tableLeft namesShort out rs ns)
     (readLeft (table.readTable t) out rs ns)))
 
--- ---- ccsl_step
+-- ---- ccsl_start_words and ccsl_step
 
-abbrev pub stepLeft : single.StepTold → List ℕ → List ℤ → Left
-stepLeft t out ws = left done (written (threeAnd (ofStep (t .said)) []) out) (written (wordNumbers (t .configuration)) ws)
-
-unfoldable pub stepInto : (records : List ℕ) → (clocks ticks : ℕ) → (answer : List ℕ) → (words : List ℤ) → Left
-stepInto ns clocks f out ws =
+-- the checks of both, in their order
+unfoldable pub onRecords : (records answer : List ℕ) → (words : List ℤ) → Left → Left
+onRecords ns out ws l =
     cond (short out 3) (left answerShort out ws)
     (cond (short ws 64) (left wordsShort out ws)
     (cond (ragged ns) (left recordsRagged out ws)
     (cond (not (kindsKnown ns)) (left kindUnknown out ws)
-    (stepLeft (single.stepOf (clockOf clocks) (recordsOf ns) (configurationOf ws) f) out ws))))
+    l)))
+
+-- an answer and a configuration, which stands where the words stood
+abbrev pub answeredLeft : Three → Configuration → List ℕ → List ℤ → Left
+answeredLeft t c out ws = left done (written (threeAnd t []) out) (written (wordNumbers c) ws)
+
+abbrev pub startLeft : start.StartTold → List ℕ → List ℤ → Left
+startLeft t out ws = answeredLeft (ofStart (t .said)) (t .configuration) out ws
+
+abbrev pub startInto : (records : List ℕ) → (clocks : ℕ) → (answer : List ℕ) → (words : List ℤ) → Left
+startInto ns clocks out ws = onRecords ns out ws (startLeft (start.startOf (clockOf clocks) (recordsOf ns)) out ws)
+
+abbrev pub stepLeft : single.StepTold → List ℕ → List ℤ → Left
+stepLeft t out ws = answeredLeft (ofStep (t .said)) (t .configuration) out ws
+
+abbrev pub stepInto : (records : List ℕ) → (clocks ticks : ℕ) → (answer : List ℕ) → (words : List ℤ) → Left
+stepInto ns clocks f out ws = onRecords ns out ws (stepLeft (single.stepOf (clockOf clocks) (recordsOf ns) (configurationOf ws) f) out ws)
 
 -- ---- ccsl_same_place
 

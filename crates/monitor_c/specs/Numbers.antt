@@ -19,6 +19,7 @@ use Rattle.text.specs.declared.Span.{Span}
 use Rattle.table.specs.Reader as table
 use Rattle.run.specs.Run as run
 use Rattle.judging.specs.Single as single
+use Rattle.lent.specs.Start as start
 use Rattle.monitor_c.specs.declared.Three.{Three}
 
 -- ---- kinds
@@ -145,6 +146,10 @@ ofRun (run.refused number place) = three 2 number place
 abbrev pub ofTable : table.Said → Three
 ofTable table.read = three 0 0 0
 ofTable (table.refused number line) = three 2 number line
+
+abbrev pub ofStart : start.StartSaid → Three
+ofStart start.started = three 0 0 0
+ofStart (start.refused number place) = three 2 number place
 
 abbrev pub ofStep : single.StepSaid → Three
 ofStep single.accepted = three 0 0 0

@@ -9,15 +9,15 @@ use lists::put_names;
 use lists::put_records;
 use lists::put_three;
 use lists::put_words;
+use numbers::check_numbers;
 use numbers::place_numbers;
 use numbers::step_numbers;
-use numbers::table_numbers;
 use numbers::verdict_numbers;
 use records::clock_of;
 use records::kinds_known;
 use records::records_of;
 ghost use mathlib.Core.Path.{_≡_};
-ghost use Rattle.monitor_c.specs.Calls.{left, runInto, tableLeft, readInto, stepInto, answerLeft, placeInto};
+ghost use Rattle.monitor_c.specs.Calls.{left, runInto, tableLeft, readInto, startInto, stepInto, answerLeft, placeInto};
 
 // What every call returns, in the order of the checks.
 pub const DONE: u32 = 0;
@@ -91,7 +91,7 @@ pub extern "C" fn ccsl_read_table(
     let outcome = read.outcome;
     let table = read.table;
     let clocks = table.names;
-    put_three(answer, table_numbers(outcome));
+    put_three(answer, check_numbers(outcome));
     answer[3] = table.count as u64;
     answer[4] = clocks.count as u64;
     let rows = table.records;
@@ -101,7 +101,42 @@ pub extern "C" fn ccsl_read_table(
     DONE
 }
 
-// One step on a configuration, which is moved where it stands.
+// The start words of records: where single steps begin.
+#[no_mangle]
+pub extern "C" fn ccsl_start_words(
+    records: &[u64],
+    clocks: u32,
+    words: &mut [i64],
+    answer: &mut [u64],
+) -> u32
+    ensures { λ r. ⌜ left r (now (answer .exit)) (now (words .exit)) ≡ startInto (now (records .entry)) clocks (now (answer .entry)) (now (words .entry)) ⌝ }
+{
+    if answer.len() < 3 {
+        return ANSWER_SHORT;
+    }
+    if words.len() < 64 {
+        return WORDS_SHORT;
+    }
+    if records.len() % 6 != 0 {
+        return RECORDS_RAGGED;
+    }
+    if !kinds_known(records) {
+        return KIND_UNKNOWN;
+    }
+    let started = lent::start_on(
+        records_of(records),
+        records.len() / 6,
+        clock_of(clocks as u64),
+    );
+    let outcome = started.outcome;
+    let monitor = started.monitor;
+    let configuration = monitor.configuration;
+    put_three(answer, check_numbers(outcome));
+    put_words(words, configuration);
+    DONE
+}
+
+// One step of a monitor, whose words are moved where they stand.
 #[no_mangle]
 pub extern "C" fn ccsl_step(
     records: &[u64],

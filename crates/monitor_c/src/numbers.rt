@@ -15,7 +15,8 @@ ghost use Rattle.constraint.specs.declared.Kind.the-variants as kinds;
 ghost use Rattle.table.specs.Reader as reader;
 ghost use Rattle.run.specs.Run as run;
 ghost use Rattle.judging.specs.Single as single;
-ghost use Rattle.monitor_c.specs.Numbers.{atMost, kindNumber, kindOf, three, ofRun, ofTable, ofStep, ofPlace};
+ghost use Rattle.lent.specs.Start as start;
+ghost use Rattle.monitor_c.specs.Numbers.{atMost, kindNumber, kindOf, three, ofRun, ofTable, ofStart, ofStep, ofPlace};
 
 // n, or the most that is let pass.
 pub fn at_most(most: u64, n: u64) -> u64
@@ -157,9 +158,10 @@ pub fn verdict_numbers(verdict: Verdict) -> Three
     }
 }
 
-// Whether a table was read.
-pub fn table_numbers(outcome: Check) -> Three
-    ensures { λ r. ⌜ r ≡ ofTable (reader.said outcome) ⌝ }
+// What a check comes to: whether a table was read, and whether records start.
+pub fn check_numbers(outcome: Check) -> Three
+    ensures table { λ r. ⌜ r ≡ ofTable (reader.said outcome) ⌝ }
+    ensures start { λ r. ⌜ r ≡ ofStart (start.startSaid outcome) ⌝ }
 {
     match outcome {
         Check::Passed => said(0),

@@ -10,6 +10,15 @@
 //! let report = ccsl::run(table, recording);
 //! assert_eq!(report.to_string(), "violated 1 7\nsteps 2\nconfig 0\n");
 //! ```
+//!
+//! Or a monitor stands at the table's start words and is moved forward step by step:
+//!
+//! ```
+//! let table = ccsl::read_table(b"a precedes b").unwrap();
+//! let mut monitor = ccsl::Monitor::of_table(&table).unwrap();
+//! assert_eq!(monitor.step(0b01), ccsl::StepAnswer::Accepted);
+//! assert_eq!(monitor.words()[0], 1);
+//! ```
 
 pub mod raw;
 
@@ -212,33 +221,67 @@ pub fn run(table: &[u8], recording: &[u8]) -> Report {
     }
 }
 
-/// The words that a table starts with, from which single steps begin; all 0 where it is refused.
-///
-/// They are what a run of an empty recording leaves, which is refused before its first step.
-pub fn start_words(table: &[u8]) -> Configuration {
-    run(table, b"").configuration
+/// The start words of records on a number of clocks: where single steps begin. They are refused,
+/// with 59, exactly where a step on these records is.
+pub fn start_words(records: &[Record], clocks: u32) -> Result<Configuration, Refusal> {
+    Monitor::of_records(records, clocks).map(|monitor| monitor.words)
 }
 
-/// One step: clock k ticks where bit k of `ticks` is 1. Moves the configuration if and only if the
-/// step is accepted.
+/// One step: clock k ticks where bit k of `ticks` is 1. Moves the configuration where it stands if
+/// the step is accepted, and leaves it alone else.
 pub fn step(
     records: &[Record],
     clocks: u32,
     configuration: &mut Configuration,
     ticks: u32,
 ) -> StepAnswer {
-    let mut answer = [0; raw::STEP_ANSWER];
-    done(raw::step(
-        &numbers(records),
-        clocks,
-        configuration,
-        ticks,
-        &mut answer,
-    ));
-    match answer {
-        [raw::ACCEPTED, _, _] => StepAnswer::Accepted,
-        [raw::VIOLATED, record, _] => StepAnswer::Violated(record),
-        [_, number, place] => StepAnswer::Refused(Refusal { number, place }),
+    step_by_numbers(&numbers(records), clocks, configuration, ticks)
+}
+
+/// A monitor: records, and the configuration at which it stands. Each step moves it forward where it
+/// stands.
+#[derive(Clone, Debug, PartialEq, Eq)]
+pub struct Monitor {
+    records: Vec<u64>,
+    clocks: u32,
+    words: Configuration,
+}
+
+impl Monitor {
+    /// A monitor of a table, at its start words. A table that was read is never refused.
+    pub fn of_table(table: &Table) -> Result<Monitor, Refusal> {
+        Monitor::of_records(&table.records, table.clocks.len() as u32)
+    }
+
+    /// A monitor of records on a number of clocks, at their start words.
+    pub fn of_records(records: &[Record], clocks: u32) -> Result<Monitor, Refusal> {
+        let mut monitor = Monitor {
+            records: numbers(records),
+            clocks,
+            words: [0; WORDS],
+        };
+        let mut answer = [0; raw::START_ANSWER];
+        done(raw::start_words(
+            &monitor.records,
+            clocks,
+            &mut monitor.words,
+            &mut answer,
+        ));
+        match answer {
+            [raw::ACCEPTED, _, _] => Ok(monitor),
+            [_, number, place] => Err(Refusal { number, place }),
+        }
+    }
+
+    /// One step: clock k ticks where bit k of `ticks` is 1. After a violation or a refusal the
+    /// monitor stands where it stood.
+    pub fn step(&mut self, ticks: u32) -> StepAnswer {
+        step_by_numbers(&self.records, self.clocks, &mut self.words, ticks)
+    }
+
+    /// Where the monitor stands.
+    pub fn words(&self) -> &Configuration {
+        &self.words
     }
 }
 
@@ -262,6 +305,22 @@ pub fn same_place(
         [raw::ACCEPTED, _, _] => SamePlace::Same,
         [raw::VIOLATED, _, _] => SamePlace::Different,
         [_, number, place] => SamePlace::Refused(Refusal { number, place }),
+    }
+}
+
+/// One step on records that are numbers already.
+fn step_by_numbers(
+    records: &[u64],
+    clocks: u32,
+    words: &mut Configuration,
+    ticks: u32,
+) -> StepAnswer {
+    let mut answer = [0; raw::STEP_ANSWER];
+    done(raw::step(records, clocks, words, ticks, &mut answer));
+    match answer {
+        [raw::ACCEPTED, _, _] => StepAnswer::Accepted,
+        [raw::VIOLATED, record, _] => StepAnswer::Violated(record),
+        [_, number, place] => StepAnswer::Refused(Refusal { number, place }),
     }
 }
 

@@ -27,6 +27,16 @@ mod header {
             names_len: usize,
         ) -> u32;
 
+        pub fn ccsl_start_words(
+            records: *const u64,
+            records_len: usize,
+            clocks: u32,
+            words: *mut i64,
+            words_len: usize,
+            answer: *mut u64,
+            answer_len: usize,
+        ) -> u32;
+
         pub fn ccsl_step(
             records: *const u64,
             records_len: usize,
@@ -67,7 +77,7 @@ pub const RECORDS_RAGGED: u32 = 5;
 /// A record's kind is above that of `upto`.
 pub const KIND_UNKNOWN: u32 = 6;
 
-/// The first number of an answer: accepted, read, or the same place.
+/// The first number of an answer: accepted, read, started, or the same place.
 pub const ACCEPTED: u64 = 0;
 /// The first number of an answer: violated, or different places.
 pub const VIOLATED: u64 = 1;
@@ -78,6 +88,8 @@ pub const REFUSED: u64 = 2;
 pub const RUN_ANSWER: usize = 5;
 /// Numbers that [`read_table`] writes into `answer`.
 pub const READ_ANSWER: usize = 5;
+/// Numbers that [`start_words`] writes into `answer`.
+pub const START_ANSWER: usize = 3;
 /// Numbers that [`step`] writes into `answer`.
 pub const STEP_ANSWER: usize = 3;
 /// Numbers that [`same_place`] writes into `answer`.
@@ -127,7 +139,23 @@ pub fn read_table(text: &[u8], answer: &mut [u64], records: &mut [u64], names: &
     }
 }
 
-/// `ccsl_step`.
+/// `ccsl_start_words`.
+pub fn start_words(records: &[u64], clocks: u32, words: &mut [i64], answer: &mut [u64]) -> u32 {
+    // SAFETY: as in `run`.
+    unsafe {
+        header::ccsl_start_words(
+            records.as_ptr(),
+            records.len(),
+            clocks,
+            words.as_mut_ptr(),
+            words.len(),
+            answer.as_mut_ptr(),
+            answer.len(),
+        )
+    }
+}
+
+/// `ccsl_step`: the words are those of a monitor, which is moved where it stands.
 pub fn step(
     records: &[u64],
     clocks: u32,

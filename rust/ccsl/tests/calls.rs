@@ -1,6 +1,8 @@
 //! The calls on small inputs whose answers document 01 and the header give.
 
-use ccsl::{raw, Clock, Kind, Record, Refusal, SamePlace, StepAnswer, Steps, Time, Verdict, WORDS};
+use ccsl::{
+    raw, Clock, Kind, Monitor, Record, Refusal, SamePlace, StepAnswer, Steps, Time, Verdict, WORDS,
+};
 
 const TABLE: &[u8] = b"req strictly precedes ack\ndone clockDef await 2 ack\n";
 const RECORDING: &[u8] = b"$var event 1 ! req $end $var event 1 \" ack $end \
@@ -145,10 +147,84 @@ fn a_refused_table_prints_config_alone() {
 
 #[test]
 fn single_steps_begin_with_the_start_words() {
-    let table =
-        b"a precedes b\nc clockDef await 3 a\nd clockDef a sampled b\ne clockDef a upto b\n";
-    assert_eq!(ccsl::start_words(table), configuration(&[0, 3, 2, 1]));
-    assert_eq!(ccsl::start_words(b"a before b"), configuration(&[]));
+    let table = ccsl::read_table(
+        b"a precedes b\nc clockDef await 3 a\n\nd clockDef a sampled b\ne clockDef a upto b\n\
+          f clockDef a strictly sampled b\ng clockDef a lub b\nh clockDef await 1000000 b",
+    )
+    .unwrap();
+    let start = configuration(&[0, 3, 2, 1, 2, 0, 1_000_000]);
+    assert_eq!(ccsl::start_words(&table.records, 8), Ok(start));
+    assert_eq!(*Monitor::of_table(&table).unwrap().words(), start);
+    assert_eq!(ccsl::start_words(&[], 0), Ok(configuration(&[])));
+}
+
+#[test]
+fn records_that_a_step_refuses_do_not_start() {
+    let excludes = relation(Kind::Excludes, 0, 1);
+    let twice = relation(Kind::Excludes, 1, 1);
+    let mut await_0 = relation(Kind::Await, 0, 7);
+    await_0.defined = 1;
+    let cases: [(Vec<Record>, u32, u64); 7] = [
+        (vec![excludes], 33, 0),
+        (vec![twice], 33, 0),
+        (vec![excludes, excludes], 1, 1),
+        (vec![excludes, await_0], 2, 2),
+        (vec![excludes; 65], 2, 65),
+        (vec![excludes; 500], 2, 65),
+        ([vec![excludes; 70], vec![twice]].concat(), 2, 65),
+    ];
+    for (records, clocks, place) in cases {
+        let refusal = Refusal { number: 59, place };
+        assert_eq!(ccsl::start_words(&records, clocks), Err(refusal));
+        assert_eq!(Monitor::of_records(&records, clocks), Err(refusal));
+        let mut words = configuration(&[]);
+        assert_eq!(
+            ccsl::step(&records, clocks, &mut words, 0),
+            StepAnswer::Refused(refusal)
+        );
+    }
+    let (mut a, mut w) = (left(4), left_words(66));
+    assert_eq!(
+        raw::start_words(&[10, 1, 0, 0, 0, 1], 2, &mut w, &mut a),
+        raw::DONE
+    );
+    assert_eq!(a, [2, 59, 1, LEFT]);
+    assert_eq!((&w[..64], &w[64..]), (&[0; 64][..], &[LEFT_WORD; 2][..]));
+}
+
+#[test]
+fn a_monitor_is_moved_where_it_stands() {
+    let (req, ack, done) = (0b001, 0b010, 0b100);
+    let mut monitor = Monitor::of_table(&ccsl::read_table(TABLE).unwrap()).unwrap();
+    let steps = [
+        (req, [1, 2]),
+        (0, [1, 2]),
+        (ack | req, [1, 1]),
+        (ack | done, [0, 0]),
+    ];
+    for (ticks, words) in steps {
+        assert_eq!(monitor.step(ticks), StepAnswer::Accepted);
+        assert_eq!(*monitor.words(), configuration(&words));
+    }
+    let end = monitor.clone();
+    assert_eq!(monitor.step(req | ack), StepAnswer::Violated(1));
+    assert_eq!(
+        monitor.step(0b1000),
+        StepAnswer::Refused(Refusal {
+            number: 61,
+            place: 0
+        })
+    );
+    assert_eq!(monitor, end);
+}
+
+#[test]
+fn a_monitor_of_records_needs_no_table() {
+    let mut monitor = Monitor::of_records(&[relation(Kind::StrictlyPrecedes, 3, 31)], 32).unwrap();
+    assert_eq!(monitor.step(1 << 31), StepAnswer::Violated(1));
+    assert_eq!(monitor.step(1 << 3), StepAnswer::Accepted);
+    assert_eq!(monitor.step(1 << 31 | 1 << 3), StepAnswer::Accepted);
+    assert_eq!(*monitor.words(), configuration(&[1]));
 }
 
 #[test]
@@ -311,7 +387,7 @@ fn too_short_a_list_for_a_table_is_told_and_nothing_written() {
 }
 
 #[test]
-fn lists_of_a_wrong_shape_for_a_step_are_told_and_nothing_written() {
+fn lists_of_a_wrong_shape_for_records_are_told_and_nothing_written() {
     let good = [1, 0, 0, 1, 0, 1];
     let unknown = [1, 0, 0, 1, 0, 1, 14, 0, 0, 1, 0, 2];
     let cases: [(&[u64], usize, usize, u32); 9] = [
@@ -328,6 +404,8 @@ fn lists_of_a_wrong_shape_for_a_step_are_told_and_nothing_written() {
     for (records, answer, words, status) in cases {
         let (mut a, mut w) = (left(answer), left_words(words));
         assert_eq!(raw::step(records, 2, &mut w, 0, &mut a), status);
+        assert_eq!((&a, &w), (&left(answer), &left_words(words)));
+        assert_eq!(raw::start_words(records, 2, &mut w, &mut a), status);
         assert_eq!((&a, &w), (&left(answer), &left_words(words)));
         assert_eq!(raw::same_place(records, 2, &w, &w, &mut a), status);
         assert_eq!(a, left(answer));
@@ -362,7 +440,14 @@ fn of_longer_lists_the_rest_is_left_alone() {
     assert_eq!((&w[..64], &w[64..]), (&[0; 64][..], &[LEFT_WORD; 6][..]));
 
     let (mut a, mut w) = (left(4), left_words(70));
-    w[..64].fill(0);
+    assert_eq!(
+        raw::start_words(&[4, 0, 0, 1, 0, 1], 2, &mut w, &mut a),
+        raw::DONE
+    );
+    assert_eq!(a, [0, 0, 0, LEFT]);
+    assert_eq!((&w[..64], &w[64..]), (&[0; 64][..], &[LEFT_WORD; 6][..]));
+
+    let mut a = left(4);
     assert_eq!(
         raw::step(&[4, 0, 0, 1, 0, 1], 2, &mut w, 1, &mut a),
         raw::DONE

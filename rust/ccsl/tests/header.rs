@@ -52,6 +52,12 @@ fn read(text: &[u8], answer: usize, records: usize, names: usize) -> (Called, Ve
     ((status, answer), records)
 }
 
+fn start(records: &[u64], answer: usize, words: usize) -> Called {
+    let (mut answer, mut words) = (vec![0; answer], vec![0; words]);
+    let status = raw::start_words(records, 2, &mut words, &mut answer);
+    (status, answer)
+}
+
 fn step(records: &[u64], ticks: u32, answer: usize, words: usize) -> Called {
     let (mut answer, mut words) = (vec![0; answer], vec![0; words]);
     let status = raw::step(records, 2, &mut words, ticks, &mut answer);
@@ -80,18 +86,22 @@ fn statuses() -> Vec<(&'static str, u64)> {
     vec![
         ("CCSL_DONE", status(run(RECORDING, LONG, LONG))),
         ("CCSL_DONE", status(read(TABLE, LONG, LONG, LONG).0)),
+        ("CCSL_DONE", status(start(&one, LONG, LONG))),
         ("CCSL_DONE", status(step(&one, 1, LONG, LONG))),
         ("CCSL_DONE", status(place(&one, LONG, &zeros, &zeros))),
         ("CCSL_ANSWER_SHORT", status(run(RECORDING, 0, LONG))),
         ("CCSL_ANSWER_SHORT", status(read(TABLE, 0, LONG, LONG).0)),
+        ("CCSL_ANSWER_SHORT", status(start(&one, 0, LONG))),
         ("CCSL_ANSWER_SHORT", status(step(&one, 1, 0, LONG))),
         ("CCSL_ANSWER_SHORT", status(place(&one, 0, &zeros, &zeros))),
         ("CCSL_WORDS_SHORT", status(run(RECORDING, LONG, 0))),
+        ("CCSL_WORDS_SHORT", status(start(&one, LONG, 0))),
         ("CCSL_WORDS_SHORT", status(step(&one, 1, LONG, 0))),
         ("CCSL_WORDS_SHORT", status(place(&one, LONG, &[], &zeros))),
         ("CCSL_WORDS_SHORT", status(place(&one, LONG, &zeros, &[]))),
         ("CCSL_RECORDS_SHORT", status(read(TABLE, LONG, 0, LONG).0)),
         ("CCSL_NAMES_SHORT", status(read(TABLE, LONG, LONG, 0).0)),
+        ("CCSL_RECORDS_RAGGED", status(start(&one[..1], LONG, LONG))),
         (
             "CCSL_RECORDS_RAGGED",
             status(step(&one[..1], 1, LONG, LONG)),
@@ -100,6 +110,7 @@ fn statuses() -> Vec<(&'static str, u64)> {
             "CCSL_RECORDS_RAGGED",
             status(place(&one[..1], LONG, &zeros, &zeros)),
         ),
+        ("CCSL_KIND_UNKNOWN", status(start(&unknown, LONG, LONG))),
         ("CCSL_KIND_UNKNOWN", status(step(&unknown, 1, LONG, LONG))),
         (
             "CCSL_KIND_UNKNOWN",
@@ -109,7 +120,7 @@ fn statuses() -> Vec<(&'static str, u64)> {
 }
 
 fn outcomes() -> Vec<(&'static str, u64)> {
-    let one = precedes();
+    let (one, twice) = (precedes(), [5, 0, 1, 1, 0, 1]);
     let [zero, ahead, below] = [0, 1, -1].map(|word| {
         let mut words = vec![0; LONG];
         words[0] = word;
@@ -120,6 +131,7 @@ fn outcomes() -> Vec<(&'static str, u64)> {
     vec![
         ("CCSL_ACCEPTED", first(run(RECORDING, LONG, LONG))),
         ("CCSL_ACCEPTED", first(read(TABLE, LONG, LONG, LONG).0)),
+        ("CCSL_ACCEPTED", first(start(&one, LONG, LONG))),
         ("CCSL_ACCEPTED", first(step(&one, 0b01, LONG, LONG))),
         ("CCSL_ACCEPTED", first(place(&one, LONG, &zero, &zero))),
         ("CCSL_VIOLATED", first(run(&late, LONG, LONG))),
@@ -127,6 +139,7 @@ fn outcomes() -> Vec<(&'static str, u64)> {
         ("CCSL_VIOLATED", first(place(&one, LONG, &zero, &ahead))),
         ("CCSL_REFUSED", first(run(b"", LONG, LONG))),
         ("CCSL_REFUSED", first(read(b"a", LONG, LONG, LONG).0)),
+        ("CCSL_REFUSED", first(start(&twice, LONG, LONG))),
         ("CCSL_REFUSED", first(step(&one, 0b100, LONG, LONG))),
         ("CCSL_REFUSED", first(place(&one, LONG, &zero, &below))),
     ]
@@ -146,6 +159,7 @@ fn sizes() -> Vec<(&'static str, u64)> {
     assert_eq!((records % record, names % 2), (0, 0));
     let sizes = [
         ("CCSL_WORDS", least(|n| run(RECORDING, LONG, n))),
+        ("CCSL_WORDS", least(|n| start(&one, LONG, n))),
         ("CCSL_WORDS", least(|n| step(&one, 1, LONG, n))),
         (
             "CCSL_WORDS",
@@ -160,6 +174,7 @@ fn sizes() -> Vec<(&'static str, u64)> {
         ("CCSL_CLOCKS", names / 2),
         ("CCSL_RUN_ANSWER", least(|n| run(RECORDING, n, LONG))),
         ("CCSL_READ_ANSWER", least(|n| read(TABLE, n, LONG, LONG).0)),
+        ("CCSL_START_ANSWER", least(|n| start(&one, n, LONG))),
         ("CCSL_STEP_ANSWER", least(|n| step(&one, 1, n, LONG))),
         (
             "CCSL_PLACE_ANSWER",
@@ -505,6 +520,10 @@ fn other_prototypes_are_told() {
         ("const uint8_t *recording", "uint8_t *recording"),
         ("const int64_t *first", "const uint64_t *first"),
         ("                   uint32_t ticks,\n", ""),
+        (
+            "ccsl_start_words(const uint64_t",
+            "ccsl_start_words(uint64_t",
+        ),
         (
             "uint64_t *names, size_t names_len",
             "size_t names_len, uint64_t *names",

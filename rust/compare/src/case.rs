@@ -11,6 +11,8 @@ pub enum Case {
     Run { table: Vec<u8>, recording: Vec<u8> },
     /// Reading a table.
     Read { text: Vec<u8> },
+    /// The start words of records.
+    Start { records: Vec<Record>, clocks: u32 },
     /// A single step.
     Step {
         records: Vec<Record>,
@@ -41,6 +43,7 @@ pub enum Case {
 pub enum Answer {
     Run(Report),
     Read(Result<Read, Refusal>),
+    Start(Result<Configuration, Refusal>),
     /// The answer and the configuration after the call.
     Step(StepAnswer, Configuration),
     Place(SamePlace),
@@ -48,12 +51,13 @@ pub enum Answer {
     Panicked(String),
 }
 
-/// A table that was read: the records, and the clocks with the places at which they first stand in
-/// the text.
+/// A table that was read: the records, the clocks with the places at which they first stand in the
+/// text, and the start words.
 #[derive(Clone, Debug, PartialEq, Eq)]
 pub struct Read {
     pub records: Vec<Record>,
     pub clocks: Vec<(String, Range<usize>)>,
+    pub start: Result<Configuration, Refusal>,
 }
 
 impl Answer {
@@ -65,6 +69,7 @@ impl Answer {
                 ..
             })
             | Answer::Read(Err(refusal))
+            | Answer::Start(Err(refusal))
             | Answer::Step(StepAnswer::Refused(refusal), _)
             | Answer::Place(SamePlace::Refused(refusal)) => Some(*refusal),
             _ => None,
@@ -83,6 +88,10 @@ impl fmt::Display for Case {
             Case::Read { text } => {
                 writeln!(f, "read_table")?;
                 write_text(f, "text", text)
+            }
+            Case::Start { records, clocks } => {
+                writeln!(f, "start_words\n  clocks: {clocks}")?;
+                write_records(f, records)
             }
             Case::Step {
                 records,

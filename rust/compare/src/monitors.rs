@@ -48,6 +48,9 @@ pub fn library(case: &Case) -> Answer {
     match case {
         Case::Run { table, recording } => Answer::Run(report(ccsl::run(table, recording))),
         Case::Read { text } => Answer::Read(ccsl::read_table(text).map(read).map_err(refusal)),
+        Case::Start { records, clocks } => {
+            Answer::Start(ccsl::start_words(&to_library(records), *clocks).map_err(refusal))
+        }
         Case::Step {
             records,
             clocks,
@@ -85,6 +88,9 @@ pub fn second(case: &Case) -> Answer {
         Case::Run { table, recording } => Answer::Run(second_opinion::run(table, recording)),
         Case::Read { text } => {
             Answer::Read(second_opinion::read_table(text).map(|table| second_read(text, table)))
+        }
+        Case::Start { records, clocks } => {
+            Answer::Start(second_opinion::start_words(records, u64::from(*clocks)))
         }
         Case::Step {
             records,
@@ -147,6 +153,7 @@ fn second_read(text: &[u8], table: second_opinion::Table) -> Read {
         (name, place)
     };
     Read {
+        start: second_opinion::start_words(&table.records, table.names.len() as u64),
         records: table.records.into_iter().map(named).collect(),
         clocks: table.names.into_iter().map(place).collect(),
     }
@@ -237,7 +244,9 @@ fn read(table: ccsl::Table) -> Read {
         number: r.number,
         line: r.line,
     };
+    let start = ccsl::Monitor::of_table(&table).map(|monitor| *monitor.words());
     Read {
+        start: start.map_err(refusal),
         records: table
             .records
             .into_iter()

@@ -131,9 +131,10 @@ fn starts_of_commands(text: &[u8], at: usize) -> bool {
 /// A record with its words in the first and the second configuration.
 type Row = (Record, i64, i64);
 
-/// The configurations of a case; a single step has the same one twice.
+/// The configurations of a case; a single step has the same one twice, start words ask of none.
 fn configurations(case: &Case) -> (&Configuration, &Configuration) {
     match case {
+        Case::Start { .. } => (&[0; WORDS], &[0; WORDS]),
         Case::Step { words, .. } => (words, words),
         Case::Place { first, second, .. } | Case::Search { first, second, .. } => (first, second),
         Case::Run { .. } | Case::Read { .. } => unreachable!("texts have no configuration"),
@@ -142,9 +143,10 @@ fn configurations(case: &Case) -> (&Configuration, &Configuration) {
 
 fn records(case: &Case) -> &[Record] {
     match case {
-        Case::Step { records, .. } | Case::Place { records, .. } | Case::Search { records, .. } => {
-            records
-        }
+        Case::Start { records, .. }
+        | Case::Step { records, .. }
+        | Case::Place { records, .. }
+        | Case::Search { records, .. } => records,
         Case::Run { .. } | Case::Read { .. } => &[],
     }
 }
@@ -174,6 +176,7 @@ fn with_rows(case: &Case, rows: &[Row]) -> Case {
     };
     let mut case = case.clone();
     match &mut case {
+        Case::Start { records, .. } => *records = rows.iter().map(|row| row.0).collect(),
         Case::Step { records, words, .. } => {
             *words = moved(words, |row| row.1);
             *records = rows.iter().map(|row| row.0).collect();
@@ -221,6 +224,12 @@ fn simplifications(case: &Case) -> Vec<Case> {
         }
     }
     match case {
+        Case::Start { records, clocks } => {
+            found.extend(lower(*clocks).map(|clocks| Case::Start {
+                records: records.clone(),
+                clocks,
+            }));
+        }
         Case::Step {
             records,
             clocks,

@@ -79,6 +79,8 @@ fn words_for(answer: &Answer) -> &'static str {
         },
         Answer::Read(Ok(_)) => "table read",
         Answer::Read(Err(_)) => "table refused",
+        Answer::Start(Ok(_)) => "records started",
+        Answer::Start(Err(_)) => "start refused",
         Answer::Step(StepAnswer::Accepted, _) => "step accepted",
         Answer::Step(StepAnswer::Violated(_), _) => "step violated",
         Answer::Step(StepAnswer::Refused(_), _) => "step refused",

@@ -24,6 +24,8 @@ fn mixed_questions_agree_and_meet_every_refusal_number() {
         "run refused",
         "table read",
         "table refused",
+        "records started",
+        "start refused",
         "step accepted",
         "step violated",
         "step refused",
@@ -73,6 +75,15 @@ fn recordings_at_the_limits_agree() {
 #[test]
 fn damaged_recordings_agree() {
     agree(10, 1500, Group::DamagedRecording);
+}
+
+#[test]
+fn start_words_agree() {
+    let starts = agree(14, 3000, Group::Start);
+    assert!(
+        starts.answers("records started") >= 500 && starts.answers("start refused") >= 500,
+        "{starts}"
+    );
 }
 
 #[test]

@@ -29,6 +29,14 @@ fn no_gap_limit(case: &Case) -> Answer {
     }
 }
 
+/// A monitor that starts with zeros.
+fn starts_with_zeros(case: &Case) -> Answer {
+    match second(case) {
+        Answer::Start(Ok(_)) => Answer::Start(Ok([0; second_opinion::WORDS])),
+        answer => answer,
+    }
+}
+
 /// A monitor that breaks off at a step at time 7.
 fn breaks_off(case: &Case) -> Answer {
     if let Case::Run { recording, .. } = case {
@@ -65,6 +73,15 @@ fn a_missing_limit_is_found_with_one_record() {
     assert_eq!(records.len(), 1, "{mismatch}");
     assert_eq!(words[0].abs(), 1_000_000, "{mismatch}");
     assert!(words[1..].iter().all(|word| *word == 0), "{mismatch}");
+}
+
+#[test]
+fn wrong_start_words_are_found_with_one_record() {
+    let mismatch = found(starts_with_zeros);
+    let Case::Start { records, .. } = &mismatch.case else {
+        panic!("{mismatch}")
+    };
+    assert_eq!(records.len(), 1, "{mismatch}");
 }
 
 #[test]

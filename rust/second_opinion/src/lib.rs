@@ -23,7 +23,7 @@ mod table;
 pub use place::{same_place, told_apart, SamePlace};
 pub use rule::{judge, start_word, Kind, Record};
 pub use run::{run, Report, Verdict};
-pub use step::{step, StepAnswer};
+pub use step::{start_words, step, StepAnswer};
 pub use table::{read_table, Table};
 
 /// "A configuration is 64 words, one a constraint in table order, the rest 0."

@@ -3,8 +3,8 @@
 use std::fmt;
 
 use crate::recording::{self, Variable, Variables, Word, Words};
-use crate::step::{advance, Stop};
-use crate::{read_table, start_word, Configuration, Record, Refusal, Table, WORDS};
+use crate::step::{advance, start, Stop};
+use crate::{read_table, Configuration, Record, Refusal, Table, WORDS};
 
 /// "The verdict is `accepted`, or `violated` with table line and time, or
 /// `refused` with number and place."
@@ -116,13 +116,9 @@ struct Monitor<'t> {
 
 impl<'t> Monitor<'t> {
     fn start(records: &'t [Record]) -> Self {
-        let mut configuration = [0; WORDS];
-        for (word, record) in configuration.iter_mut().zip(records) {
-            *word = start_word(record);
-        }
         Monitor {
             records,
-            configuration,
+            configuration: start(records),
             steps: Steps(0),
         }
     }

@@ -4,7 +4,7 @@ use std::iter;
 use std::ops::RangeInclusive;
 
 use crate::rule::AWAIT_NUMBERS;
-use crate::{judge, Configuration, Kind, Record, Refusal, CLOCKS, WORDS};
+use crate::{judge, start_word, Configuration, Kind, Record, Refusal, CLOCKS, WORDS};
 
 /// The answer to a single step.
 #[derive(Clone, Copy, Debug, PartialEq, Eq)]
@@ -15,6 +15,22 @@ pub enum StepAnswer {
     Violated(u64),
     /// The step was not judged, or it left the gap limit (51).
     Refused(Refusal),
+}
+
+/// The words with which single steps on these records begin, unless the records
+/// are refused (59).
+pub fn start_words(records: &[Record], clocks: u64) -> Result<Configuration, Refusal> {
+    check_records(records, clocks)?;
+    Ok(start(records))
+}
+
+/// The start words: "one a constraint in table order, the rest 0".
+pub(crate) fn start(records: &[Record]) -> Configuration {
+    let mut configuration = [0; WORDS];
+    for (word, record) in configuration.iter_mut().zip(records) {
+        *word = start_word(record);
+    }
+    configuration
 }
 
 /// One step on a given configuration, which it moves if and only if the step is

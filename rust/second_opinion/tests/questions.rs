@@ -22,11 +22,13 @@ fn place_of(
     same_place(records, clocks, &one, &other)
 }
 
-/// The 59 of a list, which both questions must give.
+/// The 59 of a list, which both questions and the start words must give.
 fn list_refusal(records: &[Record], clocks: u64) -> Option<u64> {
     let start = [0; WORDS];
     let stepped = stepped(records, clocks, start, 0).0;
     let place = place_of(records, clocks, start, start);
+    let refused = start_words(records, clocks).err();
+    assert_eq!(refused.map(StepAnswer::Refused), refusal_of(stepped));
     match (stepped, place) {
         (StepAnswer::Refused(one), SamePlace::Refused(other)) => {
             assert_eq!(one, other);
@@ -36,6 +38,29 @@ fn list_refusal(records: &[Record], clocks: u64) -> Option<u64> {
         (StepAnswer::Accepted, SamePlace::Same) => None,
         answers => panic!("the two questions differ: {answers:?}"),
     }
+}
+
+/// A step's answer, where it is a refusal.
+fn refusal_of(answer: StepAnswer) -> Option<StepAnswer> {
+    matches!(answer, StepAnswer::Refused(_)).then_some(answer)
+}
+
+#[test]
+fn single_steps_begin_with_a_start_word_for_each_record() {
+    let records = KINDS.map(|kind| match kind {
+        Kind::Await => awaiting(7),
+        _ => record(kind),
+    });
+    let records: Vec<Record> = (0..)
+        .zip(records)
+        .map(|(defined, record)| Record {
+            defined: defined + 2,
+            ..record
+        })
+        .collect();
+    let starts = [0, 0, 0, 0, 0, 0, 0, 0, 0, 0, 7, 2, 2, 1];
+    assert_eq!(start_words(&records, 32), Ok(words(&starts)));
+    assert_eq!(start_words(&[], 0), Ok([0; WORDS]));
 }
 
 #[test]

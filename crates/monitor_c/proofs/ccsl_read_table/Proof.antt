@@ -29,7 +29,7 @@ returns-4 c =
     let n = q .table .names .count in
     let answer = written (threeAnd (ofTable (said (q .outcome))) (k ∷ n ∷ [])) out in
     ap (λ a. tableLeft done (set (set a 3 k) 4 n) (written-records .put-records .last .0) (written-names .put-names .last .0)) (three .put-three .ensures)
-    ∙ ap (λ v. tableLeft done (set (set (written (threeAnd v []) out) 3 k) 4 n) (written-records .put-records .last .0) (written-names .put-names .last .0)) (numbers .table-numbers .ensures)
+    ∙ ap (λ v. tableLeft done (set (set (written (threeAnd v []) out) 3 k) 4 n) (written-records .put-records .last .0) (written-names .put-names .last .0)) (numbers .check-numbers .ensures .0)
     ∙ ap (λ a. tableLeft done a (written-records .put-records .last .0) (written-names .put-names .last .0)) (five (ofTable (said (q .outcome))) k n out (e1 .if1 .left))
     ∙ ap (λ xs. tableLeft done answer xs (written-names .put-names .last .0)) (written-records .put-records .ensures)
     ∙ ap (λ xs. tableLeft done answer (written (recordNumbers (q .table .records)) rs) xs) (written-names .put-names .ensures)

@@ -10,7 +10,7 @@ use Rattle.lent.specs.Lent.{lent}
 use Rattle.judging.specs.Single.{stepOf, stepSaid}
 use Rattle.monitor_c.specs.Calls.{written, done, left, stepLeft}
 use Rattle.monitor_c.specs.Numbers.{clockOf, recordsOf, configurationOf, ofStep, threeAnd}
-use Rattle.monitor_c.proofs.CallLaws.{step-answer-short, step-words-short, step-ragged, step-unknown, step-done}
+use Rattle.monitor_c.proofs.CallLaws.{answer-short, words-short, records-ragged, kind-unknown, in-shape}
 use Rattle.monitor_c.proofs.RecordLaws.{step-lent}
 use borrow.Author.Needs.{needs}
 use Rattle.monitor_c.proofs.ccsl_step.Statement.{statement}
@@ -20,7 +20,7 @@ returns-4 : tie.Need-returns-4
 returns-4 c =
     let known = c .before in
     let e3 = known .before in
-    step-unknown _ _ _ _ _ (e3 .before .before .if1 .left) (e3 .before .if2 .left) (e3 .if3 .left) (sym (known .kinds-known .ensures) ∙ not-true _ (c .if4 .taken))
+    kind-unknown _ _ _ _ (e3 .before .before .if1 .left) (e3 .before .if2 .left) (e3 .if3 .left) (sym (known .kinds-known .ensures) ∙ not-true _ (c .if4 .taken))
 
 returns-5 : tie.Need-returns-5
 returns-5 c =
@@ -49,15 +49,15 @@ returns-5 c =
     ∙ ap (λ k. stepLeft (stepOf k (lent (length ns / 6) (sets (replicate 66 empty) 0 (recordsOf ns))) (configuration .configuration-of .result) (s .ticks)) out ws) (clocks .clock-of .ensures)
     ∙ ap (λ g. stepLeft (stepOf (clockOf (s .clocks)) (lent (length ns / 6) (sets (replicate 66 empty) 0 (recordsOf ns))) g (s .ticks)) out ws) (configuration .configuration-of .ensures)
     ∙ ap (λ t. stepLeft t out ws) (step-lent (clockOf (s .clocks)) ns (configurationOf ws) (s .ticks))
-    ∙ step-done ns (s .clocks) (s .ticks) out ws (e1 .if1 .left) (e2 .if2 .left) (e3 .if3 .left) (sym (known .kinds-known .ensures) ∙ not-false _ (e4 .if4 .left))
+    ∙ in-shape ns out ws _ (e1 .if1 .left) (e2 .if2 .left) (e3 .if3 .left) (sym (known .kinds-known .ensures) ∙ not-false _ (e4 .if4 .left))
 
 pub ccsl-step-spec : {M : Type 1} → statement M
 ccsl-step-spec =
     tie.close
     (tie.spec
-    (λ c. step-answer-short _ _ _ _ _ (c .if1 .taken))
-    (λ c. step-words-short _ _ _ _ _ (c .before .if1 .left) (c .if2 .taken))
-    (λ c. step-ragged _ _ _ _ _ (c .before .before .if1 .left) (c .before .if2 .left) (c .if3 .taken))
+    (λ c. answer-short _ _ _ _ (c .if1 .taken))
+    (λ c. words-short _ _ _ _ (c .before .if1 .left) (c .if2 .taken))
+    (λ c. records-ragged _ _ _ _ (c .before .before .if1 .left) (c .before .if2 .left) (c .if3 .taken))
     (λ c κs. search needs)
     returns-4
     (λ c κs. search needs)

@@ -35,6 +35,8 @@ pub enum Group {
     RecordingLength,
     /// A recording that is damaged.
     DamagedRecording,
+    /// The start words of records.
+    Start,
     /// A single step.
     Step,
     /// The same-place question.
@@ -44,7 +46,7 @@ pub enum Group {
 }
 
 /// The groups, and how often each comes up.
-pub const GROUPS: [(usize, Group); 12] = [
+pub const GROUPS: [(usize, Group); 13] = [
     (500, Group::Table),
     (1300, Group::TableLimits),
     (800, Group::DamagedTable),
@@ -54,6 +56,7 @@ pub const GROUPS: [(usize, Group); 12] = [
     (1900, Group::RecordingLimits),
     (20, Group::RecordingLength),
     (1200, Group::DamagedRecording),
+    (500, Group::Start),
     (1500, Group::Step),
     (800, Group::SamePlace),
     (310, Group::SamePlaceBySearch),
@@ -93,6 +96,7 @@ pub fn of(random: &mut Random, group: Group) -> Case {
             ]);
             changed_recording(random, plan, damage::damage)
         }
+        Group::Start => records::start(random),
         Group::Step => records::step(random),
         Group::SamePlace => records::place(random),
         Group::SamePlaceBySearch => records::search(random),

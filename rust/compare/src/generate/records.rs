@@ -1,5 +1,5 @@
-//! Records, configurations and tick sets for the single step and the same-place question, mostly
-//! such as are not refused.
+//! Records, configurations and tick sets for start words, the single step and the same-place
+//! question, mostly such as are not refused.
 
 use super::ticks;
 use crate::case::Case;
@@ -47,6 +47,18 @@ const COUNTS: [u32; 13] = [
 struct Material {
     records: Vec<Record>,
     clocks: u32,
+}
+
+/// A question about start words.
+pub fn start(random: &mut Random) -> Case {
+    let Material {
+        mut records,
+        mut clocks,
+    } = Material::any(random);
+    while random.once_in(3) {
+        spoil_records(random, &mut records, &mut clocks);
+    }
+    Case::Start { records, clocks }
 }
 
 /// A question about one step.
