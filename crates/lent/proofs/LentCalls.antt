@@ -40,11 +40,11 @@ use Rattle.judging.specs.declared.Stepped.{Stepped}
 use Rattle.lent.specs.declared.Survey.{Survey}
 use Rattle.lent.proofs.Elem.{slice, OwnSlice}
 use Rattle.lent.proofs.Monitor as M
-use Rattle.lent.proofs.lent.advance as advance
-use Rattle.lent.proofs.lent.at_most as at-most
-use Rattle.lent.proofs.lent.same_place as same-place
-use Rattle.lent.proofs.lent.step as step
-use Rattle.lent.proofs.lent.survey as survey
+use Rattle.lent.proofs.walks.advance as advance
+use Rattle.lent.proofs.walks.at_most as at-most
+use Rattle.lent.proofs.walks.same_place as same-place
+use Rattle.lent.proofs.walks.step as step
+use Rattle.lent.proofs.walks.survey as survey
 
 module _ {𝓜 : Type 1} (𝓤 : URA 𝓜) (H : Heap 𝓤) (A : Atoms 𝓤) (mem : Memory → SProp 𝓤) (run : Routine → Fun 𝓤) where
   abbrev pub Surveys : Contract 𝓤

@@ -20,15 +20,15 @@ visits s [] i l = absurd (not-suc-le-zero l)
 visits s (y ∷ ys) zero l = refl
 visits s (y ∷ ys) (suc i) l = visits s ys i (le-of-suc-le-suc l)
 
-pub one-more : (s : Survey) (ys : List Constraint) (i : ℕ) → i < length ys → surveyed s (drop i ys) ≡ surveyed (visited s (getD ys i empty)) (drop (i + 1) ys)
-one-more s ys i l = subst (λ (j : ℕ). surveyed s (drop i ys) ≡ surveyed (visited s (getD ys i empty)) (drop j ys)) (sym (add-one i)) (visits s ys i l)
+pub survey-on : (s : Survey) (ys : List Constraint) (i : ℕ) → i < length ys → surveyed s (drop i ys) ≡ surveyed (visited s (getD ys i empty)) (drop (i + 1) ys)
+survey-on s ys i l = subst (λ (j : ℕ). surveyed s (drop i ys) ≡ surveyed (visited s (getD ys i empty)) (drop j ys)) (sym (add-one i)) (visits s ys i l)
 
-pub none-left : (s : Survey) (ys : List Constraint) (i : ℕ) → length ys ≤ i → surveyed s (drop i ys) ≡ s
+pub survey-done : (s : Survey) (ys : List Constraint) (i : ℕ) → length ys ≤ i → surveyed s (drop i ys) ≡ s
 unfolding surveyed
-none-left s [] zero l = refl
-none-left s [] (suc i) l = refl
-none-left s (y ∷ ys) zero l = absurd (not-suc-le-zero l)
-none-left s (y ∷ ys) (suc i) l = none-left s ys i (le-of-suc-le-suc l)
+survey-done s [] zero l = refl
+survey-done s [] (suc i) l = refl
+survey-done s (y ∷ ys) zero l = absurd (not-suc-le-zero l)
+survey-done s (y ∷ ys) (suc i) l = survey-done s ys i (le-of-suc-le-suc l)
 
 pub few-lent : (count m : ℕ) → m ≡ atMost count → m ≤ 66
 few-lent count m is = subst (λ (k : ℕ). k ≤ 66) (sym is) (go (leb count 66) refl)

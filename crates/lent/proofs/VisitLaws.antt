@@ -54,18 +54,18 @@ module _
 -- ---- words beyond the records
 
 module _ (ws : List Word) (i : ℕ) where
-  pub none-beyond : length ws ≤ i → firstOut (i + 1) [] (drop i ws) ≡ Nowhere
-  none-beyond h = rw (drop-of-length-le ws h)
+  pub beyond-done : length ws ≤ i → firstOut (i + 1) [] (drop i ws) ≡ Nowhere
+  beyond-done h = rw (drop-of-length-le ws h)
 
   module _ (v : Word) (inside : i < length ws) where
     beyond-turn : firstOut (i + 1) [] (drop i ws) ≡ cond (inRange empty (getD ws i v)) (firstOut (i + 1 + 1) [] (drop (i + 1) ws)) (at (i + 1))
     beyond-turn = rw (drop-cons ws i v inside, add-one (i + 1), add-one i)
 
-    pub is-beyond : inRange empty (getD ws i v) ≡ false → firstOut (i + 1) [] (drop i ws) ≡ at (i + 1)
-    is-beyond e = beyond-turn ∙ rw e
+    pub beyond-stop : inRange empty (getD ws i v) ≡ false → firstOut (i + 1) [] (drop i ws) ≡ at (i + 1)
+    beyond-stop e = beyond-turn ∙ rw e
 
-    pub not-beyond : inRange empty (getD ws i v) ≡ true → firstOut (i + 1) [] (drop i ws) ≡ firstOut (i + 1 + 1) [] (drop (i + 1) ws)
-    not-beyond e = beyond-turn ∙ rw e
+    pub beyond-on : inRange empty (getD ws i v) ≡ true → firstOut (i + 1) [] (drop i ws) ≡ firstOut (i + 1 + 1) [] (drop (i + 1) ws)
+    beyond-on e = beyond-turn ∙ rw e
 
 -- ---- the tick set
 

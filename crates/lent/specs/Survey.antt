@@ -1,5 +1,5 @@
--- The single step as one walk over the records: what one record adds to what is known of those before it, and the answer at the end.
--- proofs/SurveyLaws shows that it comes to what Single says. Assumes nothing.
+-- Of the code's shape: the single step as one walk over the records, what one record adds to what is known of those before it, and the answer at
+-- the end. proofs/SurveyLaws shows that it comes to what Single says. Assumes nothing.
 use mathlib.Core.Bool.{Bool, true, false, cond, _&&_}
 use mathlib.Core.List.{List, [], _∷_}
 use Prim.Native.Nat.{ℕ, _+_, _-_}

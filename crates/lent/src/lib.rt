@@ -1,23 +1,23 @@
 // The single step and the same-place question on lent records, and the monitor that is lent and moved forward where it stands.
 
-mod lent;
 mod start;
-mod visits;
+mod surveying;
+mod walks;
 
 use constraint::Broken;
 use constraint::Configuration;
 use judging::StepAnswer;
-pub use lent::advance;
-pub use lent::advance_on;
-pub use lent::same_place;
-pub use lent::same_place_on;
-pub use lent::step;
-pub use lent::step_on;
 use limit::Check;
 pub use start::start_on;
+pub use walks::advance;
+pub use walks::advance_on;
+pub use walks::same_place;
+pub use walks::same_place_on;
+pub use walks::step;
+pub use walks::step_on;
 
 // What is known of the records so far: the words after the step, the clocks that they define, and the lowest place of a record that does
-// not fit, of a word out of range, of a record that fails, and of a word that leaves its range.
+// not fit, of a word out of range, of a record that fails, and of a word that leaves its million.
 pub struct Survey {
     pub clocks: u8,
     pub ticks: u32,

@@ -1,7 +1,7 @@
 // Where single steps begin: a monitor with the start words of records.
 use super::Monitor;
 use super::Started;
-use super::lent::at_most;
+use super::walks::at_most;
 use constraint::Broken;
 use constraint::Configuration;
 use constraint::Constraint;

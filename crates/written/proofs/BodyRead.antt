@@ -11,7 +11,7 @@ use lib.ListN.{length, drop, length-append, length-drop}
 use Rattle.limit.specs.Checked.{passed}
 use Rattle.constraint.specs.Ticks.{Ticks, bits, withTick}
 use Rattle.constraint.proofs.TickSets.{bits-zero, with-tick-adds, with-tick-full}
-use Rattle.text.specs.Bytes.{inClass, allBytes}
+use Rattle.text.specs.Bytes.{allBytes}
 use Rattle.text.specs.Digits.{digits}
 use Rattle.text.specs.Split.{span, bytesOf}
 use Rattle.text.specs.declared.Class.the-variants.{Parting}
@@ -105,7 +105,7 @@ module _ (named : List ℕ → ℕ) (vs : List WrittenVariable) (us : List Varia
       → Each (λ s. Each Known (s .ticks)) ss → Each (λ s. Apart (λ i j. Differ (clock i) (clock j)) (s .ticks)) ss
       → bodySteps us r o (words r at) ≡ closing o (record { steps = readSteps named vs at ss; ending = ended })
   unfolding texts readSteps Each Apart
-  steps-read [] o at d t h a k p = body-done us r o (words r at) (words-over r (inClass Parting) at (omega (arith, length-drop at r, ap (λ (l : List ℕ). length l) d)))
+  steps-read [] o at d t h a k p = body-done us r o (words r at) (words-over r Parting at (omega (arith, length-drop at r, ap (λ (l : List ℕ). length l) d)))
   steps-read (s ∷ ss) o at d t h a k p =
       let m = mark (s .time) in
       let c = texts (tickAt vs) (s .ticks) in

@@ -9,29 +9,32 @@ use borrow.Author.Tests.{lt-ltb}
 use lib.ListN.{length, drop, length-append}
 use lib.Seq.{take-at, drop-at, drop-drop}
 use Rattle.text.specs.Bytes.{inClass, allBytes}
-use Rattle.text.specs.Split.{span, bytesOf, grown, pieces, filled, wordsAt}
+use Rattle.text.specs.Split.{span, bytesOf, grown, tokens, filled}
 use Rattle.text.specs.declared.Class.the-variants.{Parting}
 use Rattle.text.specs.declared.Span.{Span}
 use Rattle.recording.specs.Header.{words}
 use Rattle.written.specs.Layout.{line, texts}
 
--- ---- a word that a separator ends
+-- ---- a word that a separator ends, where no other byte does
 module _ (sep : ℕ → Bool) (c : ℕ) (s : List ℕ) (e : sep c ≡ true) where
-  pieces-word : (w : List ℕ) (at : ℕ) → allBytes (λ b. not (sep b)) w ≡ true → pieces sep at (w ++ c ∷ s) ≡ span at (at + length w) ∷ pieces sep (at + length w + 1) s
-  unfolding pieces grown allBytes
-  pieces-word [] at h = let z : at + 0 ≡ at = omega arith in rw (e, z)
-  pieces-word (b ∷ w) at h = go (sep b) h (pieces-word w (at + 1))
+  token-word : (w : List ℕ) (at : ℕ) → allBytes (λ b. not (sep b)) w ≡ true → tokens sep sep at (w ++ c ∷ s) ≡ span at (at + length w) ∷ tokens sep sep (at + length w + 1) s
+  unfolding tokens grown allBytes
+  token-word [] at h = let z : at + 0 ≡ at = omega arith in rw (e, z)
+  token-word (b ∷ w) at h = go (sep b) h (token-word w (at + 1))
     where
+      rest : List Span
+      rest = tokens sep sep (at + 1) (w ++ c ∷ s)
+
       go : (t : Bool) → (not t && allBytes (λ b. not (sep b)) w) ≡ true
-          → (allBytes (λ b. not (sep b)) w ≡ true → pieces sep (at + 1) (w ++ c ∷ s) ≡ span (at + 1) (at + 1 + length w) ∷ pieces sep (at + 1 + length w + 1) s)
-          → cond t (span at at ∷ pieces sep (at + 1) (w ++ c ∷ s)) (grown at (pieces sep (at + 1) (w ++ c ∷ s))) ≡ span at (at + suc (length w)) ∷ pieces sep (at + suc (length w) + 1) s
+          → (allBytes (λ b. not (sep b)) w ≡ true → rest ≡ span (at + 1) (at + 1 + length w) ∷ tokens sep sep (at + 1 + length w + 1) s)
+          → cond t (span at at ∷ rest) (cond t (span at at ∷ span at (at + 1) ∷ rest) (grown at rest)) ≡ span at (at + suc (length w)) ∷ tokens sep sep (at + suc (length w) + 1) s
       go true h ih = cc
       go false h ih = let z : at + 1 + length w ≡ at + suc (length w) = omega arith in ap (grown at) (ih h) ∙ rw z
 
-  words-word : (r : List ℕ) (at : ℕ) (w : List ℕ) → 0 < length w → allBytes (λ b. not (sep b)) w ≡ true → drop at r ≡ w ++ c ∷ s
-      → wordsAt sep r at ≡ span at (at + length w) ∷ filled (pieces sep (at + length w + 1) s)
+  first-token : (at : ℕ) (w : List ℕ) → 0 < length w → allBytes (λ b. not (sep b)) w ≡ true
+      → filled (tokens sep sep at (w ++ c ∷ s)) ≡ span at (at + length w) ∷ filled (tokens sep sep (at + length w + 1) s)
   unfolding filled
-  words-word r at w k h d = rw (d, pieces-word w at h, lt-ltb at (at + length w) (omega arith))
+  first-token at w k h = rw (token-word w at h, lt-ltb at (at + length w) (omega arith))
 
 -- ---- what is left behind a part
 module _ (r : List ℕ) (at : ℕ) where
@@ -80,8 +83,9 @@ module _ (r : List ℕ) where
   word-then : (at : ℕ) (w : List ℕ) (c : ℕ) (s : List ℕ) → Word w → inClass Parting c ≡ true → drop at r ≡ w ++ c ∷ s
       → words r at ≡ span at (at + length w) ∷ words r (at + length w + 1)
   word-then at w c s g e d =
-      words-word (inClass Parting) c s e r at w (g .some) (g .whole) d
-      ∙ ap (λ (l : List ℕ). span at (at + length w) ∷ filled (pieces (inClass Parting) (at + length w + 1) l)) (sym (left-next r at w c s d))
+      ap (λ (l : List ℕ). filled (tokens (inClass Parting) (inClass Parting) at l)) d
+      ∙ first-token (inClass Parting) c s e at w (g .some) (g .whole)
+      ∙ ap (λ (l : List ℕ). span at (at + length w) ∷ filled (tokens (inClass Parting) (inClass Parting) (at + length w + 1) l)) (sym (left-next r at w c s d))
 
   pub line-words : (ws : List (List ℕ)) (w : List ℕ) (at : ℕ) (s : List ℕ) → Words w ws → drop at r ≡ line w ws ++ s → words r at ≡ spans at w ws ++ words r (at + length (line w ws))
   unfolding line
