@@ -21,6 +21,7 @@ use constraint::SamePlace;
 use constraint::Word;
 use judging::StepAnswer;
 use lent::Monitor;
+use limit::Check;
 use limit::Place;
 
 // ` yes` or ` no`.
@@ -68,6 +69,20 @@ fn say_step(answer: StepAnswer) {
         StepAnswer::Violated(place) => say_place(b"violated ", place),
         StepAnswer::Refused(refusal) => say_refusal(refusal),
     }
+}
+
+// The monitor that the records start with.
+pub fn start(line: &[u8]) {
+    let started = lent::start_on(slots(line), count(line), clocks(line));
+    let outcome = started.outcome;
+    let monitor = started.monitor;
+    let configuration = monitor.configuration;
+    say(b" ");
+    match outcome {
+        Check::Passed => say(b"started"),
+        Check::Refused(refusal) => say_refusal(refusal),
+    }
+    say_words(configuration);
 }
 
 // The single step.

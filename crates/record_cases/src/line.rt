@@ -13,7 +13,7 @@ fn known_word(word: &[u8]) -> bool {
         return true;
     };
     let found = find(
-        b"step advance same_place rule range fits broken_record broken_word with_tick clocks count words second every 1st 2nd 3rd 64th 66th empty = # isSubClockOf strictly_precedes precedes clockUnion clockInter lub glb await strictly_sampled sampled upto",
+        b"step advance same_place rule range fits broken_record broken_word with_tick start clocks count words second every 1st 2nd 3rd 64th 66th empty = # isSubClockOf strictly_precedes precedes clockUnion clockInter lub glb await strictly_sampled sampled upto",
         word,
     );
     found.place != 0
@@ -36,7 +36,7 @@ fn known(line: &[u8]) -> bool {
 fn asked(line: &[u8]) {
     let word = text::next_word(Class::Space, line, 0);
     let found = find(
-        b"step advance same_place rule range fits broken_record broken_word with_tick",
+        b"step advance same_place rule range fits broken_record broken_word with_tick start",
         text::part(line, word),
     );
     let question = found.place;
@@ -50,6 +50,7 @@ fn asked(line: &[u8]) {
         7 => ask::broken_record(line),
         8 => ask::broken_word(line),
         9 => ask::with_tick(line),
+        10 => ask::start(line),
         _ => say(b" bad line"),
     }
 }
