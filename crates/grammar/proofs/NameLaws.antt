@@ -27,8 +27,8 @@ module _ (t w : List ℕ) (ps : List Span) (count i : ℕ) where
       let l : i < length (take count ps) = simp length-take (omega arith) in
       rw (drop-next (take count ps) i d l, getD-take count ps i d h)
 
-  pub name-here : i < count → i < length ps → (d : Span) → sameBytes (bytesOf t (getD ps i d)) w ≡ true → position t w i (drop i (take count ps)) ≡ At i
-  name-here h k d e = step h k d ∙ rw e
+  pub name-stop : i < count → i < length ps → (d : Span) → sameBytes (bytesOf t (getD ps i d)) w ≡ true → position t w i (drop i (take count ps)) ≡ At i
+  name-stop h k d e = step h k d ∙ rw e
 
   pub name-on : i < count → i < length ps → (d : Span) → sameBytes (bytesOf t (getD ps i d)) w ≡ false
       → position t w i (drop i (take count ps)) ≡ position t w (i + 1) (drop (i + 1) (take count ps))
@@ -38,8 +38,8 @@ module _ (t w : List ℕ) (ps : List Span) (count i : ℕ) where
   unfolding position
   none-left h = rw (drop-of-length-le (take count ps) h)
 
-  pub name-none : count ≤ i → position t w i (drop i (take count ps)) ≡ Nothing
-  name-none h = none-left (simp length-take (omega arith))
+  pub name-done : count ≤ i → position t w i (drop i (take count ps)) ≡ Nothing
+  name-done h = none-left (simp length-take (omega arith))
 
   pub name-past : length ps ≤ i → position t w i (drop i (take count ps)) ≡ Nothing
   name-past h = none-left (simp length-take (omega arith))
@@ -61,9 +61,9 @@ module _ (t : List ℕ) (ns : Names) where
   unfolding unlessFound
   word-new w e f = rw (e, f)
 
-  pub words-none : (ws : List Span) → ws ≡ [] → withWords t ns ws ≡ ns
+  pub words-done : (ws : List Span) → ws ≡ [] → withWords t ns ws ≡ ns
   unfolding withWords
-  words-none ws e = rw e
+  words-done ws e = rw e
 
   pub words-one : (w : Span) (ws : List Span) → withWords t ns (w ∷ ws) ≡ withWords t (withWord t ns w) ws
   unfolding withWords
@@ -76,8 +76,8 @@ end-other t ns w h = let e : w .end - w .start ≡ 0 = omega arith in rw e
 
 -- a turn of the loop over a line's words
 module _ (t : List ℕ) (ns : Names) (at : ℕ) (w : Span) (n : NextWord Space t at w) where
-  pub words-turn : withWords t ns (wordsAt Space t at) ≡ withWords t (withWord t ns w) (wordsAt Space t (w .end))
-  words-turn = go (decLt (w .start) (w .end))
+  pub words-on : withWords t ns (wordsAt Space t at) ≡ withWords t (withWord t ns w) (wordsAt Space t (w .end))
+  words-on = go (decLt (w .start) (w .end))
     where
       go : Dec (w .start < w .end) → withWords t ns (wordsAt Space t at) ≡ withWords t (withWord t ns w) (wordsAt Space t (w .end))
       go (yes h) = ap (withWords t ns) (is-word t Space at w n h) ∙ words-one t ns w (wordsAt Space t (w .end))
@@ -85,4 +85,4 @@ module _ (t : List ℕ) (ns : Names) (at : ℕ) (w : Span) (n : NextWord Space t
           let l : w .end ≤ w .start = omega arith in
           let e = is-last t Space at w n l in
           let f : wordsAt Space t (w .end) ≡ [] = n .after ∙ ap rest e ∙ rest-none in
-          words-none t ns _ e ∙ sym (end-other t ns w l) ∙ sym (words-none t (withWord t ns w) _ f)
+          words-done t ns _ e ∙ sym (end-other t ns w l) ∙ sym (words-done t (withWord t ns w) _ f)

@@ -21,14 +21,14 @@ shape-some [] h = absurd (h refl)
 shape-some (b ∷ bs) h = refl
 
 module _ (w : List ℕ) (s : Spelled) (ss : List Spelled) where
-  pub look-here : sameBytes w (s .bytes) ≡ true → s .token ≡ lookUp w (s ∷ ss)
+  pub look-stop : sameBytes w (s .bytes) ≡ true → s .token ≡ lookUp w (s ∷ ss)
   unfolding lookUp
-  look-here e = rw e
+  look-stop e = rw e
 
   pub look-on : sameBytes w (s .bytes) ≡ false → lookUp w (s ∷ ss) ≡ lookUp w ss
   unfolding lookUp
   look-on e = rw e
 
-pub look-none : (w : List ℕ) → shapeOf w ≡ lookUp w []
+pub look-done : (w : List ℕ) → shapeOf w ≡ lookUp w []
 unfolding lookUp
-look-none w = refl
+look-done w = refl

@@ -1,20 +1,20 @@
 -- What a single step answers: the checks in their order, one by one, decide the whole answer, and each claim of `StepAnswers` is read off that.
 -- Assumes nothing.
 use mathlib.Core.Path.{_≡_, refl, sym, ap, _∙_}
-use mathlib.Core.Bool.{Bool, true, false, cond, true≢false, false≢true}
+use mathlib.Core.Bool.{Bool, true, false, cond, true≢false}
 use mathlib.Core.List.{List, [], _∷_}
 use Prim.Native.Nat.{ℕ, zero, suc, _+_, _^_, _<_, _≤_}
 use native.Mathlib.Omega.{arith}
-use borrow.Author.Tests.{lt-ltb, le-ltb, ltb-true, ltb-false, leb-true}
-use lib.Dec.{ltb, leb}
-use lib.IntN.{ℤ, pos, negsuc}
+use borrow.Author.Tests.{lt-ltb, le-ltb, ltb-true, ltb-false}
+use lib.Dec.{ltb}
+use lib.IntN.{pos}
 use lib.ListN.{length}
 use Rattle.limit.specs.declared.Limit.the-variants.{Records, ConfigurationWord, TickSet}
 use Rattle.limit.specs.declared.Place.{Place}
 use Rattle.limit.specs.Limit.{numberOf}
 use Rattle.limit.proofs.Numbers.{refusals-differ}
 use Rattle.constraint.specs.Lists.{at, empty, firstNot, firstOut, brokenRecord, brokenWord}
-use Rattle.constraint.specs.Meaning.{word, within, wordRange, holds, nextWord, inRange}
+use Rattle.constraint.specs.Meaning.{word, holds, nextWord, inRange}
 use Rattle.constraint.specs.Million.{inMillion, firstPast}
 use Rattle.constraint.specs.SamePlace.{recordAt, wordAt}
 use Rattle.constraint.specs.Ticks.{Ticks, bits}
@@ -23,8 +23,8 @@ use Rattle.constraint.specs.declared.Broken.the-variants.{Nowhere, At}
 use Rattle.constraint.specs.declared.Configuration.{Configuration}
 use Rattle.constraint.specs.declared.Constraint.{Constraint}
 use Rattle.constraint.specs.declared.Word.{Word}
-use Rattle.constraint.proofs.Booleans.{and-r}
 use Rattle.constraint.proofs.Demand3.{nowhere}
+use Rattle.constraint.proofs.Slots.{only-zero}
 use Rattle.judging.specs.Answers.{HasBoth, Holds, Stays, All, FirstNot, Passes, StepRefuses, by-records, by-words, by-ticks, by-million, StepViolates, StepAccepts, EveryStepAnswers}
 use Rattle.judging.specs.Single.{StepSaid, accepted, violated, refused, StepTold, StepSaidDetermines, refusesAt, beyondClocks, judgedTold, stepOf}
 use Rattle.judging.specs.Step.{firstFailing, moved, handedBack, judged}
@@ -45,14 +45,6 @@ moved-beyond F [] ws i h = refl
 moved-beyond F (r ∷ rs) [] i h = refl
 moved-beyond F (r ∷ rs) (w ∷ ws) zero h = absurd (omega arith)
 moved-beyond F (r ∷ rs) (w ∷ ws) (suc i) h = moved-beyond F rs ws i (omega arith)
-
--- the one word in range of an empty slot
-only-zero : (w : Word) → inRange empty w ≡ true → w ≡ word (pos 0)
-only-zero w e = ap word (go (w .0) e)
-  where
-    go : (z : ℤ) → within (wordRange empty) z ≡ true → z ≡ pos 0
-    go (pos m) e = let h : m ≤ 0 = leb-true m 0 (and-r (leb 0 m) _ e) in ap pos (omega arith)
-    go (negsuc m) e = absurd (false≢true e)
 
 zero-beyond : (k : ℕ) (rs : List Constraint) (ws : List Word) (i : ℕ) → firstOut k rs ws ≡ Nowhere → length rs ≤ i → wordAt ws i ≡ word (pos 0)
 zero-beyond k rs [] i e h = refl

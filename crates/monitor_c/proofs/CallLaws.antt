@@ -10,12 +10,12 @@ use lib.ListN.{length, set}
 use Rattle.constraint.specs.SamePlace.{samePlaceOf}
 use Rattle.table.specs.Reader.{readTable}
 use Rattle.run.specs.Run.{runOf}
-use Rattle.monitor_c.specs.declared.Three.{Three}
+use Rattle.monitor_c.specs.declared.AnswerNumbers.{AnswerNumbers}
 use Rattle.monitor_c.specs.Calls.{written, answerShort, wordsShort, recordsShort, namesShort, recordsRagged, kindUnknown, Left, left, runLeft, runInto, tableLeft, readLeft, readInto, onRecords, answerLeft, placeLeft, placeInto}
-use Rattle.monitor_c.specs.Numbers.{clockOf, recordsOf, kindsKnown, configurationOf, threeAnd}
+use Rattle.monitor_c.specs.Numbers.{clockOf, recordsOf, kindsKnown, configurationOf, answerAnd}
 
 -- an answer of three numbers, with two behind it
-pub five : (t : Three) (s n : ℕ) (out : List ℕ) → 5 ≤ length out → set (set (written (threeAnd t []) out) 3 s) 4 n ≡ written (threeAnd t (s ∷ n ∷ [])) out
+pub five : (t : AnswerNumbers) (s n : ℕ) (out : List ℕ) → 5 ≤ length out → set (set (written (answerAnd t []) out) 3 s) 4 n ≡ written (answerAnd t (s ∷ n ∷ [])) out
 five t s n [] room = absurd (omega (arith, room))
 five t s n (a ∷ []) room = absurd (omega (arith, room))
 five t s n (a ∷ b ∷ []) room = absurd (omega (arith, room))

@@ -38,21 +38,21 @@ sets-all vs xs enough =
     ∙ rw (e, drop-length xs) (append-nil us)
 
 -- what is left to store, with one element more stored
-pub store-more : {A B : Type 0} (f : A → B) (vs : List A) (xs : List B) (i : ℕ) (d : A) → i < length vs
+pub store-on : {A B : Type 0} (f : A → B) (vs : List A) (xs : List B) (i : ℕ) (d : A) → i < length vs
     → sets xs i (map f (drop i vs)) ≡ sets (set xs i (f (getD vs i d))) (i + 1) (map f (drop (i + 1) vs))
-store-more f vs xs i d inside = rw (drop-next vs i d inside, add-one i) refl
+store-on f vs xs i d inside = rw (drop-next vs i d inside, add-one i) refl
 
 -- six places a record
-pub records-more : (rs : List Constraint) (xs : List ℕ) (i : ℕ) (d : Constraint) → i < length rs
+pub records-on : (rs : List Constraint) (xs : List ℕ) (i : ℕ) (d : Constraint) → i < length rs
     → sets xs (6 * i) (recordNumbers (drop i rs)) ≡ sets (sets xs (6 * i) (recordNumbers (getD rs i d ∷ []))) (6 * (i + 1)) (recordNumbers (drop (i + 1) rs))
-records-more rs xs i d inside =
+records-on rs xs i d inside =
     let e : 6 * (i + 1) ≡ suc (suc (suc (suc (suc (suc (6 * i)))))) = omega arith in
     rw (drop-next rs i d inside, e) refl
 
 -- two places a name
-pub names-more : (ps : List Span) (xs : List ℕ) (i : ℕ) (d : Span) → i < length ps
+pub names-on : (ps : List Span) (xs : List ℕ) (i : ℕ) (d : Span) → i < length ps
     → sets xs (2 * i) (nameNumbers (drop i ps)) ≡ sets (set (set xs (2 * i) (getD ps i d .start)) (2 * i + 1) (getD ps i d .end)) (2 * (i + 1)) (nameNumbers (drop (i + 1) ps))
-names-more ps xs i d inside =
+names-on ps xs i d inside =
     let e : 2 * (i + 1) ≡ suc (suc (2 * i)) = omega arith in
     rw (drop-next ps i d inside, e, add-one (2 * i)) refl
 

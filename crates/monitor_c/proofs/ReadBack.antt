@@ -10,7 +10,7 @@ use Rattle.constraint.specs.declared.Definition.the-variants.{Union, Inter, Lub
 use Rattle.constraint.specs.declared.Kind.{Kind}
 use Rattle.constraint.specs.declared.Kind.the-variants.{Empty, Relates, Defines}
 use Rattle.constraint.specs.declared.Relation.the-variants.{Coincides, Excludes, SubClock, StrictlyPrecedes, Precedes}
-use Rattle.monitor_c.specs.Numbers.{kindOf, kindNumber, atMost, sixes, recordNumbers, recordsOf, kindsKnown, Fitting, AllFitting, none, more, ReadBack}
+use Rattle.monitor_c.specs.Numbers.{kindOf, kindNumber, atMost, rows, recordNumbers, recordsOf, kindsKnown, Fitting, AllFitting, none, more, ReadBack}
 
 -- the number of a kind is known, and is the number of that kind
 known : (k : Kind) → (kindOf (kindNumber k) ≡ k) × (leb (kindNumber k) 13 ≡ true)
@@ -34,7 +34,7 @@ passes : (most n : ℕ) → n ≤ most → atMost most n ≡ n
 passes most n fits = rw (le-leb n most fits) refl
 
 pub read-back : ReadBack
-unfolding sixes
+unfolding rows
 read-back [] none = (refl, refl)
 read-back (r ∷ rs) (more f fs) =
     let onward = read-back rs fs in

@@ -1,4 +1,4 @@
--- Records in sixes of numbers: one more, none left, how many; and the records that a doorway lends, the first 66. Assumes nothing.
+-- Records in rows of numbers: one more, none left, how many; and the records that a doorway lends, the first 66. Assumes nothing.
 use mathlib.Core.Path.{_≡_, refl, sym, _∙_}
 use mathlib.Core.Bool.{Bool, true, false, cond}
 use mathlib.Core.List.{List, [], _∷_}
@@ -18,13 +18,13 @@ use Rattle.lent.specs.Start.{startOf}
 use Rattle.lent.proofs.First66.{step-first-66, place-first-66}
 use Rattle.lent.proofs.StartLaws.{start-first-66}
 use Rattle.judging.specs.Single.{stepOf}
-use Rattle.monitor_c.specs.Numbers.{atMost, recordOf, recordsOf, sixes, sixAt}
+use Rattle.monitor_c.specs.Numbers.{atMost, recordOf, recordsOf, rows, rowAt}
 use Rattle.text.proofs.Bytes.{drop-next}
 use Rattle.monitor_c.proofs.ListLaws.{sets-written, sets-all}
 
 -- fewer than six numbers are no record
-few : (ns : List ℕ) → length ns < 6 → sixes ns ≡ []
-unfolding sixes
+few : (ns : List ℕ) → length ns < 6 → rows ns ≡ []
+unfolding rows
 few [] h = refl
 few (k ∷ []) h = refl
 few (k ∷ c ∷ []) h = refl
@@ -33,12 +33,12 @@ few (k ∷ c ∷ a ∷ b ∷ []) h = refl
 few (k ∷ c ∷ a ∷ b ∷ n ∷ []) h = refl
 few (k ∷ c ∷ a ∷ b ∷ n ∷ l ∷ ns) h = absurd (omega (arith, h))
 
-pub none-left : (ns : List ℕ) (i : ℕ) → length ns < i + 6 → sixes (drop i ns) ≡ []
-none-left ns i h = few (drop i ns) (omega (arith, h, length-drop i ns))
+pub rows-done : (ns : List ℕ) (i : ℕ) → length ns < i + 6 → rows (drop i ns) ≡ []
+rows-done ns i h = few (drop i ns) (omega (arith, h, length-drop i ns))
 
-pub six-more : (ns : List ℕ) (i : ℕ) → i + 6 ≤ length ns → sixes (drop i ns) ≡ sixAt ns i ∷ sixes (drop (i + 6) ns)
-unfolding sixes
-six-more ns i room =
+pub rows-on : (ns : List ℕ) (i : ℕ) → i + 6 ≤ length ns → rows (drop i ns) ≡ rowAt ns i ∷ rows (drop (i + 6) ns)
+unfolding rows
+rows-on ns i room =
     let e2 : i + 1 + 1 ≡ i + 2 = omega arith in
     let e3 : i + 2 + 1 ≡ i + 3 = omega arith in
     let e4 : i + 3 + 1 ≡ i + 4 = omega arith in
@@ -52,8 +52,8 @@ pub record Counted (n k : ℕ) : Type 0 where
   pub most : 6 * k ≤ n
   pub few : n < 6 * k + 6
 
-counted : (ns : List ℕ) → Counted (length ns) (length (sixes ns))
-unfolding sixes
+counted : (ns : List ℕ) → Counted (length ns) (length (rows ns))
+unfolding rows
 counted [] = record { most = omega arith; few = omega arith }
 counted (k ∷ []) = record { most = omega arith; few = omega arith }
 counted (k ∷ c ∷ []) = record { most = omega arith; few = omega arith }
@@ -62,7 +62,7 @@ counted (k ∷ c ∷ a ∷ b ∷ []) = record { most = omega arith; few = omega 
 counted (k ∷ c ∷ a ∷ b ∷ n ∷ []) = record { most = omega arith; few = omega arith }
 counted (k ∷ c ∷ a ∷ b ∷ n ∷ l ∷ ns) = let h = counted ns in record { most = omega (arith, h .most); few = omega (arith, h .few) }
 
-pub how-many : (ns : List ℕ) → length ns / 6 ≡ length (sixes ns)
+pub how-many : (ns : List ℕ) → length ns / 6 ≡ length (rows ns)
 how-many ns = let h = counted ns in omega (arith, h .most, h .few)
 
 -- a number that is let pass is at most the most
@@ -87,7 +87,7 @@ lent-records rs = go (leb (length rs) 66) refl
         rw (sets-all rs (replicate 66 empty) (omega (arith, many))) (take-take 66 66 rs (omega arith))
 
 lent-numbers : (ns : List ℕ) → lent (length ns / 6) (sets (replicate 66 empty) 0 (recordsOf ns)) ≡ take 66 (recordsOf ns)
-lent-numbers ns = rw (how-many ns, sym (length-map (sixes ns) recordOf)) (lent-records (recordsOf ns))
+lent-numbers ns = rw (how-many ns, sym (length-map (rows ns) recordOf)) (lent-records (recordsOf ns))
 
 pub start-lent : (clocks : ℕ) (ns : List ℕ) → startOf clocks (lent (length ns / 6) (sets (replicate 66 empty) 0 (recordsOf ns))) ≡ startOf clocks (recordsOf ns)
 start-lent clocks ns = rw (lent-numbers ns) (start-first-66 clocks (recordsOf ns))

@@ -12,8 +12,8 @@ use Rattle.table.specs.Reader as table
 use Rattle.run.specs.Run as run
 use Rattle.judging.specs.Single as single
 use Rattle.lent.specs.Start as start
-use Rattle.monitor_c.specs.Numbers.{clockOf, recordsOf, kindsKnown, recordNumbers, nameNumbers, configurationOf, wordNumbers, ofRun, ofTable, ofStart, ofStep, ofPlace, threeAnd}
-use Rattle.monitor_c.specs.declared.Three.{Three}
+use Rattle.monitor_c.specs.Numbers.{clockOf, recordsOf, kindsKnown, recordNumbers, nameNumbers, configurationOf, wordNumbers, ofRun, ofTable, ofStart, ofStep, ofPlace, answerAnd}
+use Rattle.monitor_c.specs.declared.AnswerNumbers.{AnswerNumbers}
 
 -- numbers, in the place of the first of a list; the rest is left alone
 abbrev pub written : {A : Type 0} → List A → List A → List A
@@ -42,7 +42,7 @@ recordsRagged = 5
 abbrev pub kindUnknown : ℕ
 kindUnknown = 6
 
--- the numbers of `records` do not come in sixes
+-- the numbers of `records` do not come in rows
 abbrev pub ragged : List ℕ → Bool
 ragged ns = not (eqb (length ns % 6) 0)
 
@@ -62,7 +62,7 @@ left s out ws = record { status = s; answer = out; words = ws }
 
 abbrev pub runLeft : run.Told → List ℕ → List ℤ → Left
 runLeft t out ws =
-    left done (written (threeAnd (ofRun (t .said)) (t .steps ∷ t .constraints ∷ [])) out) (written (wordNumbers (t .configuration)) ws)
+    left done (written (answerAnd (ofRun (t .said)) (t .steps ∷ t .constraints ∷ [])) out) (written (wordNumbers (t .configuration)) ws)
 
 unfoldable pub runInto : (table recording : List ℕ) → (answer : List ℕ) → (words : List ℤ) → Left
 runInto t r out ws =
@@ -84,7 +84,7 @@ tableLeft s out rs ns = record { status = s; answer = out; records = rs; names =
 abbrev pub readLeft : table.Told → (answer records names : List ℕ) → TableLeft
 readLeft t out rs ns =
     tableLeft done
-    (written (threeAnd (ofTable (t .said)) (t .table .count ∷ t .table .names .count ∷ [])) out)
+    (written (answerAnd (ofTable (t .said)) (t .table .count ∷ t .table .names .count ∷ [])) out)
     (written (recordNumbers (t .table .records)) rs)
     (written (nameNumbers (t .table .names .spans)) ns)
 
@@ -107,8 +107,8 @@ onRecords ns out ws l =
     l)))
 
 -- an answer and a configuration, which stands where the words stood
-abbrev pub answeredLeft : Three → Configuration → List ℕ → List ℤ → Left
-answeredLeft t c out ws = left done (written (threeAnd t []) out) (written (wordNumbers c) ws)
+abbrev pub answeredLeft : AnswerNumbers → Configuration → List ℕ → List ℤ → Left
+answeredLeft t c out ws = left done (written (answerAnd t []) out) (written (wordNumbers c) ws)
 
 abbrev pub startLeft : start.StartTold → List ℕ → List ℤ → Left
 startLeft t out ws = answeredLeft (ofStart (t .said)) (t .configuration) out ws
@@ -132,7 +132,7 @@ abbrev pub answerLeft : (status : ℕ) → (answer : List ℕ) → AnswerLeft
 answerLeft s out = record { status = s; answer = out }
 
 abbrev pub placeLeft : place.Answer → List ℕ → AnswerLeft
-placeLeft a out = answerLeft done (written (threeAnd (ofPlace a) []) out)
+placeLeft a out = answerLeft done (written (answerAnd (ofPlace a) []) out)
 
 unfoldable pub placeInto : (records : List ℕ) → (clocks : ℕ) → (first second : List ℤ) → (answer : List ℕ) → AnswerLeft
 placeInto ns clocks ws vs out =

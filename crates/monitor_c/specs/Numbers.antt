@@ -20,7 +20,7 @@ use Rattle.table.specs.Reader as table
 use Rattle.run.specs.Run as run
 use Rattle.judging.specs.Single as single
 use Rattle.lent.specs.Start as start
-use Rattle.monitor_c.specs.declared.Three.{Three}
+use Rattle.monitor_c.specs.declared.AnswerNumbers.{AnswerNumbers}
 
 -- ---- kinds
 
@@ -62,7 +62,7 @@ abbrev pub clockOf : ℕ → ℕ
 clockOf n = atMost 255 n
 
 -- the six numbers of a record
-pub record Six : Type 0 where
+pub record RecordRow : Type 0 where
   pub kind : ℕ
   pub c : ℕ
   pub a : ℕ
@@ -70,7 +70,7 @@ pub record Six : Type 0 where
   pub n : ℕ
   pub line : ℕ
 
-abbrev pub recordOf : Six → Constraint
+abbrev pub recordOf : RecordRow → Constraint
 recordOf s = record {
   kind = kindOf (s .kind);
   defined = clockOf (s .c);
@@ -80,30 +80,30 @@ recordOf s = record {
   line = record { 0 = s .line };
 }
 
--- the numbers in sixes; what is left at the end is no record
-unfoldable pub sixes : List ℕ → List Six
-sixes [] = []
-sixes (k ∷ []) = []
-sixes (k ∷ c ∷ []) = []
-sixes (k ∷ c ∷ a ∷ []) = []
-sixes (k ∷ c ∷ a ∷ b ∷ []) = []
-sixes (k ∷ c ∷ a ∷ b ∷ n ∷ []) = []
-sixes (k ∷ c ∷ a ∷ b ∷ n ∷ l ∷ ns) = record { kind = k; c = c; a = a; b = b; n = n; line = l } ∷ sixes ns
+-- the numbers in rows; what is left at the end is no record
+unfoldable pub rows : List ℕ → List RecordRow
+rows [] = []
+rows (k ∷ []) = []
+rows (k ∷ c ∷ []) = []
+rows (k ∷ c ∷ a ∷ []) = []
+rows (k ∷ c ∷ a ∷ b ∷ []) = []
+rows (k ∷ c ∷ a ∷ b ∷ n ∷ []) = []
+rows (k ∷ c ∷ a ∷ b ∷ n ∷ l ∷ ns) = record { kind = k; c = c; a = a; b = b; n = n; line = l } ∷ rows ns
 
 abbrev pub recordsOf : List ℕ → List Constraint
-recordsOf ns = map recordOf (sixes ns)
+recordsOf ns = map recordOf (rows ns)
 
 -- whether every record's number of a kind is one
-abbrev pub allKnown : List Six → Bool
+abbrev pub allKnown : List RecordRow → Bool
 allKnown [] = true
 allKnown (s ∷ ss) = leb (s .kind) 13 && allKnown ss
 
 abbrev pub kindsKnown : List ℕ → Bool
-kindsKnown ns = allKnown (sixes ns)
+kindsKnown ns = allKnown (rows ns)
 
 -- the six from an offset on
-abbrev pub sixAt : List ℕ → ℕ → Six
-sixAt ns i = record {
+abbrev pub rowAt : List ℕ → ℕ → RecordRow
+rowAt ns i = record {
   kind = getD ns i 0;
   c = getD ns (i + 1) 0;
   a = getD ns (i + 2) 0;
@@ -135,36 +135,36 @@ wordNumbers c = map wordNumber (c .words)
 
 -- ---- answers: what is said, 0 accepted, 1 violated, 2 refused, and its two numbers
 
-abbrev pub three : (said first second : ℕ) → Three
-three s a b = record { said = s; first = a; second = b }
+abbrev pub answerNumbers : (said first second : ℕ) → AnswerNumbers
+answerNumbers s a b = record { said = s; first = a; second = b }
 
-abbrev pub ofRun : run.Said → Three
-ofRun run.accepted = three 0 0 0
-ofRun (run.violated line time) = three 1 line time
-ofRun (run.refused number place) = three 2 number place
+abbrev pub ofRun : run.Said → AnswerNumbers
+ofRun run.accepted = answerNumbers 0 0 0
+ofRun (run.violated line time) = answerNumbers 1 line time
+ofRun (run.refused number place) = answerNumbers 2 number place
 
-abbrev pub ofTable : table.Said → Three
-ofTable table.read = three 0 0 0
-ofTable (table.refused number line) = three 2 number line
+abbrev pub ofTable : table.Said → AnswerNumbers
+ofTable table.read = answerNumbers 0 0 0
+ofTable (table.refused number line) = answerNumbers 2 number line
 
-abbrev pub ofStart : start.StartSaid → Three
-ofStart start.started = three 0 0 0
-ofStart (start.refused number place) = three 2 number place
+abbrev pub ofStart : start.StartSaid → AnswerNumbers
+ofStart start.started = answerNumbers 0 0 0
+ofStart (start.refused number place) = answerNumbers 2 number place
 
-abbrev pub ofStep : single.StepSaid → Three
-ofStep single.accepted = three 0 0 0
-ofStep (single.violated r) = three 1 r 0
-ofStep (single.refused number place) = three 2 number place
+abbrev pub ofStep : single.StepSaid → AnswerNumbers
+ofStep single.accepted = answerNumbers 0 0 0
+ofStep (single.violated r) = answerNumbers 1 r 0
+ofStep (single.refused number place) = answerNumbers 2 number place
 
 -- the same place, different places, refused
-abbrev pub ofPlace : place.Answer → Three
-ofPlace place.same = three 0 0 0
-ofPlace place.different = three 1 0 0
-ofPlace (place.refused number p) = three 2 number p
+abbrev pub ofPlace : place.Answer → AnswerNumbers
+ofPlace place.same = answerNumbers 0 0 0
+ofPlace place.different = answerNumbers 1 0 0
+ofPlace (place.refused number p) = answerNumbers 2 number p
 
 -- the numbers of an answer, with others behind them
-abbrev pub threeAnd : Three → List ℕ → List ℕ
-threeAnd t ns = t .said ∷ t .first ∷ t .second ∷ ns
+abbrev pub answerAnd : AnswerNumbers → List ℕ → List ℕ
+answerAnd t ns = t .said ∷ t .first ∷ t .second ∷ ns
 
 -- ---- a theorem: records that were written are read back as the same records
 

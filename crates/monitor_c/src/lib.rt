@@ -5,9 +5,9 @@ mod numbers;
 mod records;
 
 use lists::configuration_of;
+use lists::put_answer;
 use lists::put_names;
 use lists::put_records;
-use lists::put_three;
 use lists::put_words;
 use numbers::check_numbers;
 use numbers::place_numbers;
@@ -35,7 +35,7 @@ pub const RECORDS_RAGGED: u32 = 5;
 pub const KIND_UNKNOWN: u32 = 6;
 
 // An answer: what is said, and its two numbers, 0 where it has none.
-pub struct Three {
+pub struct AnswerNumbers {
     pub said: u64,
     pub first: u64,
     pub second: u64,
@@ -61,7 +61,7 @@ pub extern "C" fn ccsl_run(
     let verdict = report.verdict;
     let steps = report.steps;
     let configuration = report.configuration;
-    put_three(answer, verdict_numbers(verdict));
+    put_answer(answer, verdict_numbers(verdict));
     answer[3] = steps.0;
     answer[4] = report.constraints as u64;
     put_words(words, configuration);
@@ -91,7 +91,7 @@ pub extern "C" fn ccsl_read_table(
     let outcome = read.outcome;
     let table = read.table;
     let clocks = table.names;
-    put_three(answer, check_numbers(outcome));
+    put_answer(answer, check_numbers(outcome));
     answer[3] = table.count as u64;
     answer[4] = clocks.count as u64;
     let rows = table.records;
@@ -131,7 +131,7 @@ pub extern "C" fn ccsl_start_words(
     let outcome = started.outcome;
     let monitor = started.monitor;
     let configuration = monitor.configuration;
-    put_three(answer, check_numbers(outcome));
+    put_answer(answer, check_numbers(outcome));
     put_words(words, configuration);
     DONE
 }
@@ -168,7 +168,7 @@ pub extern "C" fn ccsl_step(
     );
     let said = stepped.answer;
     let configuration = stepped.configuration;
-    put_three(answer, step_numbers(said));
+    put_answer(answer, step_numbers(said));
     put_words(words, configuration);
     DONE
 }
@@ -206,6 +206,6 @@ pub extern "C" fn ccsl_same_place(
         configuration_of(first),
         configuration_of(second),
     );
-    put_three(answer, place_numbers(place));
+    put_answer(answer, place_numbers(place));
     DONE
 }

@@ -1,5 +1,5 @@
 // Lists of numbers that are written, and words that are read.
-use super::Three;
+use super::AnswerNumbers;
 use super::numbers::kind_number;
 use constraint::Configuration;
 use constraint::Constraint;
@@ -11,16 +11,16 @@ ghost use Prim.Native.Nat.{_+_, _≤_};
 ghost use lib.ListN.{length};
 ghost use lib.Seq.{sets};
 ghost use Rattle.monitor_c.specs.Calls.{written};
-ghost use Rattle.monitor_c.specs.Numbers.{threeAnd, wordNumbers, recordNumbers, nameNumbers, configurationOf};
+ghost use Rattle.monitor_c.specs.Numbers.{answerAnd, wordNumbers, recordNumbers, nameNumbers, configurationOf};
 
 // Writes an answer.
-pub fn put_three(answer: &mut [u64], three: Three)
+pub fn put_answer(answer: &mut [u64], numbers: AnswerNumbers)
     requires { ⌜ 3 ≤ length (now answer) ⌝ }
-    ensures { λ r. ⌜ now (answer .exit) ≡ written (threeAnd three []) (now (answer .entry)) ⌝ }
+    ensures { λ r. ⌜ now (answer .exit) ≡ written (answerAnd numbers []) (now (answer .entry)) ⌝ }
 {
-    answer[0] = three.said;
-    answer[1] = three.first;
-    answer[2] = three.second;
+    answer[0] = numbers.said;
+    answer[1] = numbers.first;
+    answer[2] = numbers.second;
 }
 
 // Writes the words of a configuration.

@@ -1,5 +1,5 @@
 // Kinds, verdicts and answers as numbers.
-use super::Three;
+use super::AnswerNumbers;
 use constraint::Definition;
 use constraint::Kind;
 use constraint::Relation;
@@ -16,7 +16,7 @@ ghost use Rattle.table.specs.Reader as reader;
 ghost use Rattle.run.specs.Run as run;
 ghost use Rattle.judging.specs.Single as single;
 ghost use Rattle.lent.specs.Start as start;
-ghost use Rattle.monitor_c.specs.Numbers.{atMost, kindNumber, kindOf, three, ofRun, ofTable, ofStart, ofStep, ofPlace};
+ghost use Rattle.monitor_c.specs.Numbers.{atMost, kindNumber, kindOf, answerNumbers, ofRun, ofTable, ofStart, ofStep, ofPlace};
 
 // n, or the most that is let pass.
 pub fn at_most(most: u64, n: u64) -> u64
@@ -115,32 +115,32 @@ pub fn kind_of(n: u64) -> Kind
     Kind::Empty
 }
 
-fn said(n: u64) -> Three
-    ensures { λ r. ⌜ r ≡ three n 0 0 ⌝ }
+fn said(n: u64) -> AnswerNumbers
+    ensures { λ r. ⌜ r ≡ answerNumbers n 0 0 ⌝ }
 {
-    Three {
+    AnswerNumbers {
         said: n,
         first: 0,
         second: 0,
     }
 }
 
-fn violated(at: u64, time: u64) -> Three
-    ensures { λ r. ⌜ r ≡ three 1 at time ⌝ }
+fn violated(at: u64, time: u64) -> AnswerNumbers
+    ensures { λ r. ⌜ r ≡ answerNumbers 1 at time ⌝ }
 {
-    Three {
+    AnswerNumbers {
         said: 1,
         first: at,
         second: time,
     }
 }
 
-fn refused(refusal: Refusal) -> Three
-    ensures { λ r. ⌜ r ≡ three 2 (numberOf (refusal .limit)) (refusal .place .0) ⌝ }
+fn refused(refusal: Refusal) -> AnswerNumbers
+    ensures { λ r. ⌜ r ≡ answerNumbers 2 (numberOf (refusal .limit)) (refusal .place .0) ⌝ }
 {
     let limit = refusal.limit;
     let place = refusal.place;
-    Three {
+    AnswerNumbers {
         said: 2,
         first: limit::number(limit) as u64,
         second: place.0 as u64,
@@ -148,7 +148,7 @@ fn refused(refusal: Refusal) -> Three
 }
 
 // The verdict of a run.
-pub fn verdict_numbers(verdict: Verdict) -> Three
+pub fn verdict_numbers(verdict: Verdict) -> AnswerNumbers
     ensures { λ r. ⌜ r ≡ ofRun (run.said verdict) ⌝ }
 {
     match verdict {
@@ -159,7 +159,7 @@ pub fn verdict_numbers(verdict: Verdict) -> Three
 }
 
 // What a check comes to: whether a table was read, and whether records start.
-pub fn check_numbers(outcome: Check) -> Three
+pub fn check_numbers(outcome: Check) -> AnswerNumbers
     ensures table { λ r. ⌜ r ≡ ofTable (reader.said outcome) ⌝ }
     ensures start { λ r. ⌜ r ≡ ofStart (start.startSaid outcome) ⌝ }
 {
@@ -170,7 +170,7 @@ pub fn check_numbers(outcome: Check) -> Three
 }
 
 // What a single step answers.
-pub fn step_numbers(answer: StepAnswer) -> Three
+pub fn step_numbers(answer: StepAnswer) -> AnswerNumbers
     ensures { λ r. ⌜ r ≡ ofStep (single.stepSaid answer) ⌝ }
 {
     match answer {
@@ -181,7 +181,7 @@ pub fn step_numbers(answer: StepAnswer) -> Three
 }
 
 // What the same-place question answers.
-pub fn place_numbers(answer: SamePlace) -> Three
+pub fn place_numbers(answer: SamePlace) -> AnswerNumbers
     ensures { λ r. ⌜ r ≡ ofPlace (place.answer answer) ⌝ }
 {
     match answer {

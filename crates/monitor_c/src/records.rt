@@ -9,7 +9,7 @@ ghost use Prim.Native.Nat.{_+_, _≤_};
 ghost use lib.ListN.{length, replicate};
 ghost use lib.Seq.{sets};
 ghost use Rattle.constraint.specs.Lists.{empty};
-ghost use Rattle.monitor_c.specs.Numbers.{clockOf, kindsKnown, recordOf, recordsOf, sixAt};
+ghost use Rattle.monitor_c.specs.Numbers.{clockOf, kindsKnown, recordOf, recordsOf, rowAt};
 
 // Whether every record's kind is one.
 pub fn kinds_known(numbers: &[u64]) -> bool
@@ -35,7 +35,7 @@ pub fn clock_of(n: u64) -> u8
 // The record whose six numbers begin at an offset.
 fn record_at(numbers: &[u64], at: usize) -> Constraint
     requires { ⌜ at + 6 ≤ length (now numbers) ⌝ }
-    ensures { λ r. ⌜ r ≡ recordOf (sixAt (now (numbers .entry)) at) ⌝ }
+    ensures { λ r. ⌜ r ≡ recordOf (rowAt (now (numbers .entry)) at) ⌝ }
 {
     Constraint {
         kind: kind_of(numbers[at]),

@@ -4,7 +4,7 @@ use mathlib.Core.List.{[], _∷_}
 use lib.ListN.{set}
 use Rattle.table.specs.Reader.{said}
 use Rattle.monitor_c.specs.Calls.{written, done, tableLeft, readLeft}
-use Rattle.monitor_c.specs.Numbers.{ofTable, threeAnd, recordNumbers}
+use Rattle.monitor_c.specs.Numbers.{ofTable, answerAnd, recordNumbers}
 use Rattle.monitor_c.proofs.CallLaws.{five, read-answer-short, read-records-short, read-names-short, read-done}
 use borrow.Author.Needs.{needs}
 use Rattle.monitor_c.proofs.ccsl_read_table.Statement.{statement}
@@ -14,8 +14,8 @@ returns-4 : tie.Need-returns-4
 returns-4 c =
     let written-names = c .before .before in
     let written-records = written-names .before .before .before .before in
-    let three = written-records .before .before .before .before .before .before in
-    let numbers = three .before in
+    let put = written-records .before .before .before .before .before .before in
+    let numbers = put .before in
     let read = numbers .before .before .before .before in
     let e3 = read .before in
     let e2 = e3 .before in
@@ -27,9 +27,9 @@ returns-4 c =
     let ns = s .names .now in
     let k = q .table .count in
     let n = q .table .names .count in
-    let answer = written (threeAnd (ofTable (said (q .outcome))) (k ∷ n ∷ [])) out in
-    ap (λ a. tableLeft done (set (set a 3 k) 4 n) (written-records .put-records .last .0) (written-names .put-names .last .0)) (three .put-three .ensures)
-    ∙ ap (λ v. tableLeft done (set (set (written (threeAnd v []) out) 3 k) 4 n) (written-records .put-records .last .0) (written-names .put-names .last .0)) (numbers .check-numbers .ensures .0)
+    let answer = written (answerAnd (ofTable (said (q .outcome))) (k ∷ n ∷ [])) out in
+    ap (λ a. tableLeft done (set (set a 3 k) 4 n) (written-records .put-records .last .0) (written-names .put-names .last .0)) (put .put-answer .ensures)
+    ∙ ap (λ v. tableLeft done (set (set (written (answerAnd v []) out) 3 k) 4 n) (written-records .put-records .last .0) (written-names .put-names .last .0)) (numbers .check-numbers .ensures .0)
     ∙ ap (λ a. tableLeft done a (written-records .put-records .last .0) (written-names .put-names .last .0)) (five (ofTable (said (q .outcome))) k n out (e1 .if1 .left))
     ∙ ap (λ xs. tableLeft done answer xs (written-names .put-names .last .0)) (written-records .put-records .ensures)
     ∙ ap (λ xs. tableLeft done answer (written (recordNumbers (q .table .records)) rs) xs) (written-names .put-names .ensures)

@@ -4,7 +4,7 @@ use mathlib.Core.List.{[], _∷_}
 use lib.ListN.{set}
 use Rattle.run.specs.Run.{said, told}
 use Rattle.monitor_c.specs.Calls.{written, done, left, runLeft}
-use Rattle.monitor_c.specs.Numbers.{ofRun, threeAnd}
+use Rattle.monitor_c.specs.Numbers.{ofRun, answerAnd}
 use Rattle.monitor_c.proofs.CallLaws.{five, run-answer-short, run-words-short, run-done}
 use borrow.Author.Needs.{needs}
 use Rattle.monitor_c.proofs.ccsl_run.Statement.{statement}
@@ -13,8 +13,8 @@ use Rattle.monitor_c.proofs.ccsl_run.Tie as tie
 returns-3 : tie.Need-returns-3
 returns-3 c =
     let words = c .before .put-words in
-    let three = c .before .before .before .before .before in
-    let numbers = three .before in
+    let put = c .before .before .before .before .before in
+    let numbers = put .before in
     let ran = numbers .before .before .before .before in
     let e2 = ran .before in
     let e1 = e2 .before in
@@ -22,10 +22,10 @@ returns-3 c =
     let q = ran .run .result in
     let out = s .answer .now in
     let ws = s .words .now in
-    ap (λ a. left done (set (set a 3 (q .steps .0)) 4 (q .constraints)) (words .last .0)) (three .put-three .ensures)
-    ∙ ap (λ v. left done (set (set (written (threeAnd v []) out) 3 (q .steps .0)) 4 (q .constraints)) (words .last .0)) (numbers .verdict-numbers .ensures)
+    ap (λ a. left done (set (set a 3 (q .steps .0)) 4 (q .constraints)) (words .last .0)) (put .put-answer .ensures)
+    ∙ ap (λ v. left done (set (set (written (answerAnd v []) out) 3 (q .steps .0)) 4 (q .constraints)) (words .last .0)) (numbers .verdict-numbers .ensures)
     ∙ ap (λ a. left done a (words .last .0)) (five (ofRun (said (q .verdict))) (q .steps .0) (q .constraints) out (e1 .if1 .left))
-    ∙ ap (λ w. left done (written (threeAnd (ofRun (said (q .verdict))) (q .steps .0 ∷ q .constraints ∷ [])) out) w) (words .ensures)
+    ∙ ap (λ w. left done (written (answerAnd (ofRun (said (q .verdict))) (q .steps .0 ∷ q .constraints ∷ [])) out) w) (words .ensures)
     ∙ ap (λ t. runLeft t out ws) (ran .run .ensures)
     ∙ run-done (s .table .now) (s .recording .now) out ws (e1 .if1 .left) (e2 .if2 .left)
 

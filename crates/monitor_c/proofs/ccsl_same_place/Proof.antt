@@ -9,7 +9,7 @@ use Rattle.constraint.specs.Lists.{empty}
 use Rattle.constraint.specs.SamePlace.{samePlaceOf}
 use Rattle.lent.specs.Lent.{lent}
 use Rattle.monitor_c.specs.Calls.{written, done, answerLeft, placeLeft}
-use Rattle.monitor_c.specs.Numbers.{clockOf, recordsOf, configurationOf, threeAnd}
+use Rattle.monitor_c.specs.Numbers.{clockOf, recordsOf, configurationOf, answerAnd}
 use Rattle.monitor_c.proofs.CallLaws.{place-answer-short, place-first-short, place-second-short, place-ragged, place-unknown, place-done}
 use Rattle.monitor_c.proofs.RecordLaws.{place-lent}
 use borrow.Author.Needs.{needs}
@@ -26,8 +26,8 @@ returns-5 c =
 
 returns-6 : tie.Need-returns-6
 returns-6 c =
-    let three = c .before .before in
-    let numbers = three .before in
+    let put = c .before .before in
+    let numbers = put .before in
     let place = numbers .before .before in
     let second = place .before in
     let first = second .before in
@@ -44,8 +44,8 @@ returns-6 c =
     let ws = s .first .now in
     let vs = s .second .now in
     let ns = s .records .now in
-    ap (λ a. answerLeft done a) (three .put-three .ensures)
-    ∙ ap (λ v. answerLeft done (written (threeAnd v []) out)) (numbers .place-numbers .ensures)
+    ap (λ a. answerLeft done a) (put .put-answer .ensures)
+    ∙ ap (λ v. answerLeft done (written (answerAnd v []) out)) (numbers .place-numbers .ensures)
     ∙ ap (λ a. placeLeft a out) (place .same-place-on .ensures .given)
     ∙ ap (λ rs. placeLeft (samePlaceOf (clocks .clock-of .result) (lent (length ns / 6) rs) (first .configuration-of .result .words) (second .configuration-of2 .result .words)) out) (records .records-of .ensures)
     ∙ ap (λ k. placeLeft (samePlaceOf k (lent (length ns / 6) (sets (replicate 66 empty) 0 (recordsOf ns))) (first .configuration-of .result .words) (second .configuration-of2 .result .words)) out) (clocks .clock-of .ensures)

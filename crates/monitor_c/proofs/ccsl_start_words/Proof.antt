@@ -9,7 +9,7 @@ use Rattle.constraint.specs.Lists.{empty}
 use Rattle.lent.specs.Lent.{lent}
 use Rattle.lent.specs.Start.{startOf, startSaid}
 use Rattle.monitor_c.specs.Calls.{written, done, left, startLeft}
-use Rattle.monitor_c.specs.Numbers.{clockOf, recordsOf, ofStart, threeAnd}
+use Rattle.monitor_c.specs.Numbers.{clockOf, recordsOf, ofStart, answerAnd}
 use Rattle.monitor_c.proofs.CallLaws.{answer-short, words-short, records-ragged, kind-unknown, in-shape}
 use Rattle.monitor_c.proofs.RecordLaws.{start-lent}
 use borrow.Author.Needs.{needs}
@@ -25,8 +25,8 @@ returns-4 c =
 returns-5 : tie.Need-returns-5
 returns-5 c =
     let words = c .before .put-words in
-    let three = c .before .before .before .before .before in
-    let numbers = three .before in
+    let put = c .before .before .before .before .before in
+    let numbers = put .before in
     let started = numbers .before .before .before .before in
     let clocks = started .before in
     let records = clocks .before in
@@ -40,9 +40,9 @@ returns-5 c =
     let out = s .answer .now in
     let ws = s .words .now in
     let ns = s .records .now in
-    ap (λ a. left done a (words .last .0)) (three .put-three .ensures)
-    ∙ ap (λ v. left done (written (threeAnd v []) out) (words .last .0)) (numbers .check-numbers .ensures .1)
-    ∙ ap (λ w. left done (written (threeAnd (ofStart (startSaid (q .outcome))) []) out) w) (words .ensures)
+    ap (λ a. left done a (words .last .0)) (put .put-answer .ensures)
+    ∙ ap (λ v. left done (written (answerAnd v []) out) (words .last .0)) (numbers .check-numbers .ensures .1)
+    ∙ ap (λ w. left done (written (answerAnd (ofStart (startSaid (q .outcome))) []) out) w) (words .ensures)
     ∙ ap (λ t. startLeft t out ws) (started .start-on .ensures)
     ∙ ap (λ rs. startLeft (startOf (clocks .clock-of .result) (lent (length ns / 6) rs)) out ws) (records .records-of .ensures)
     ∙ ap (λ k. startLeft (startOf k (lent (length ns / 6) (sets (replicate 66 empty) 0 (recordsOf ns)))) out ws) (clocks .clock-of .ensures)

@@ -9,7 +9,7 @@ use Rattle.constraint.specs.Lists.{empty}
 use Rattle.lent.specs.Lent.{lent}
 use Rattle.judging.specs.Single.{stepOf, stepSaid}
 use Rattle.monitor_c.specs.Calls.{written, done, left, stepLeft}
-use Rattle.monitor_c.specs.Numbers.{clockOf, recordsOf, configurationOf, ofStep, threeAnd}
+use Rattle.monitor_c.specs.Numbers.{clockOf, recordsOf, configurationOf, ofStep, answerAnd}
 use Rattle.monitor_c.proofs.CallLaws.{answer-short, words-short, records-ragged, kind-unknown, in-shape}
 use Rattle.monitor_c.proofs.RecordLaws.{step-lent}
 use borrow.Author.Needs.{needs}
@@ -25,8 +25,8 @@ returns-4 c =
 returns-5 : tie.Need-returns-5
 returns-5 c =
     let words = c .before .put-words in
-    let three = c .before .before .before .before .before in
-    let numbers = three .before in
+    let put = c .before .before .before .before .before in
+    let numbers = put .before in
     let stepped = numbers .before .before .before in
     let configuration = stepped .before in
     let clocks = configuration .before .before in
@@ -41,9 +41,9 @@ returns-5 c =
     let out = s .answer .now in
     let ws = s .words .now in
     let ns = s .records .now in
-    ap (λ a. left done a (words .last .0)) (three .put-three .ensures)
-    ∙ ap (λ v. left done (written (threeAnd v []) out) (words .last .0)) (numbers .step-numbers .ensures)
-    ∙ ap (λ w. left done (written (threeAnd (ofStep (stepSaid (q .answer))) []) out) w) (words .ensures)
+    ap (λ a. left done a (words .last .0)) (put .put-answer .ensures)
+    ∙ ap (λ v. left done (written (answerAnd v []) out) (words .last .0)) (numbers .step-numbers .ensures)
+    ∙ ap (λ w. left done (written (answerAnd (ofStep (stepSaid (q .answer))) []) out) w) (words .ensures)
     ∙ ap (λ t. stepLeft t out ws) (stepped .step-on .ensures)
     ∙ ap (λ rs. stepLeft (stepOf (clocks .clock-of .result) (lent (length ns / 6) rs) (configuration .configuration-of .result) (s .ticks)) out ws) (records .records-of .ensures)
     ∙ ap (λ k. stepLeft (stepOf k (lent (length ns / 6) (sets (replicate 66 empty) 0 (recordsOf ns))) (configuration .configuration-of .result) (s .ticks)) out ws) (clocks .clock-of .ensures)

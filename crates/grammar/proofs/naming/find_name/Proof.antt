@@ -6,7 +6,7 @@ use lib.ListN.{length, take, drop}
 use denote.Ref.{now}
 use Rattle.constraint.proofs.Walk.{length-mapped}
 use Rattle.grammar.specs.Names.{position, numberIn}
-use Rattle.grammar.proofs.NameLaws.{name-here, name-on, name-none, name-past}
+use Rattle.grammar.proofs.NameLaws.{name-stop, name-on, name-done, name-past}
 use borrow.Author.Needs.{needs}
 use Rattle.grammar.proofs.naming.find_name.Statement.{statement}
 use Rattle.grammar.proofs.naming.find_name.Tie as tie
@@ -21,7 +21,7 @@ returns : tie.Need-returns Inv-loop μ-loop
 returns c =
     let l = c .before .before in
     let s = l .before .before .before .args in
-    sym (name-none (now (s .table)) (now (s .name)) (s .t2 .spans) (s .t2 .count) (l .loop .i) (c .if1 .taken)) ∙ l .loop .inv .1
+    sym (name-done (now (s .table)) (now (s .name)) (s .t2 .spans) (s .t2 .count) (l .loop .i) (c .if1 .taken)) ∙ l .loop .inv .1
 
 returns-2 : tie.Need-returns-2 Inv-loop μ-loop
 returns-2 c =
@@ -29,7 +29,7 @@ returns-2 c =
     let s = l .before .before .before .args in
     let k : length (s .t2 .spans) ≡ 32 = search (needs, length-mapped) in
     let same = sym (c .before .same-bytes .ensures) ∙ c .if2 .taken in
-    sym (name-here (now (s .table)) (now (s .name)) (s .t2 .spans) (s .t2 .count) (l .loop .i) (c .before .before .before .before .if1 .left) (omega arith) _ (rw (c .before .before .part .ensures) at same)) ∙ l .loop .inv .1
+    sym (name-stop (now (s .table)) (now (s .name)) (s .t2 .spans) (s .t2 .count) (l .loop .i) (c .before .before .before .before .if1 .left) (omega arith) _ (rw (c .before .before .part .ensures) at same)) ∙ l .loop .inv .1
 
 loop-again : tie.Need-loop-again Inv-loop μ-loop
 loop-again c =

@@ -10,7 +10,7 @@ use Rattle.text.specs.declared.Class.the-variants.{Space}
 use Rattle.text.proofs.Runs.{words-over}
 use Rattle.grammar.specs.Names.{withWords}
 use Rattle.grammar.proofs.GrammarLaws.{word-told}
-use Rattle.grammar.proofs.NameLaws.{words-none, words-turn}
+use Rattle.grammar.proofs.NameLaws.{words-done, words-on}
 use borrow.Author.Needs.{needs}
 use Rattle.grammar.proofs.naming.with_words.Statement.{statement}
 use Rattle.grammar.proofs.naming.with_words.Tie as tie
@@ -29,13 +29,13 @@ loop-again c =
     let w = c .before .word-at in
     let l = c .before .before .before in
     let t = now (l .before .before .args .line) in
-    rw (c .with-word .ensures) (sym (words-turn t (l .loop .all) (l .loop .at) (w .result .span) (w .ensures .next)) ∙ l .loop .inv)
+    rw (c .with-word .ensures) (sym (words-on t (l .loop .all) (l .loop .at) (w .result .span) (w .ensures .next)) ∙ l .loop .inv)
 
 returns : tie.Need-returns Inv-loop μ-loop
 returns c =
     let l = c .before in
     let t = now (l .before .before .args .line) in
-    sym (words-none t (l .loop .all) _ (words-over t Space (l .loop .at) (c .loop-test .left))) ∙ l .loop .inv
+    sym (words-done t (l .loop .all) _ (words-over t Space (l .loop .at) (c .loop-test .left))) ∙ l .loop .inv
 
 pub with-words-spec : {M : Type 1} → statement M
 with-words-spec =

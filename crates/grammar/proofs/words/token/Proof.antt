@@ -6,7 +6,7 @@ use denote.Ref.{now}
 use lib.ListN.{drop}
 use Rattle.grammar.specs.Tokens.{lookUp, formWords}
 use borrow.Author.Needs.{needs}
-use Rattle.grammar.proofs.TokenLaws.{look-here, look-on}
+use Rattle.grammar.proofs.TokenLaws.{look-stop, look-on}
 use Rattle.grammar.proofs.words.token.Statement.{statement}
 use Rattle.grammar.proofs.words.token.Tie as tie
 
@@ -37,21 +37,21 @@ token-spec =
     (tie.spec
     (λ c. search needs)
     (λ c κs. tt)
-    (λ c. look-here _ _ _ (sym (c .before .same-bytes .ensures) ∙ c .if1 .taken))
+    (λ c. look-stop _ _ _ (sym (c .before .same-bytes .ensures) ∙ c .if1 .taken))
     (λ c. search needs)
     (λ c κs. tt)
-    (λ c. look-here _ _ _ (sym (c .before .same-bytes2 .ensures) ∙ c .if2 .taken) ∙ sym (left1 (c .before .before .before)))
+    (λ c. look-stop _ _ _ (sym (c .before .same-bytes2 .ensures) ∙ c .if2 .taken) ∙ sym (left1 (c .before .before .before)))
     (λ c. search needs)
     (λ c κs. tt)
-    (λ c. look-here _ _ _ (sym (c .before .same-bytes3 .ensures) ∙ c .if3 .taken) ∙ sym (left2 (c .before .before .before)))
+    (λ c. look-stop _ _ _ (sym (c .before .same-bytes3 .ensures) ∙ c .if3 .taken) ∙ sym (left2 (c .before .before .before)))
     (λ c. search needs)
     (λ c κs. tt)
-    (λ c. look-here _ _ _ (sym (c .before .same-bytes4 .ensures) ∙ c .if4 .taken) ∙ sym (left3 (c .before .before .before)))
+    (λ c. look-stop _ _ _ (sym (c .before .same-bytes4 .ensures) ∙ c .if4 .taken) ∙ sym (left3 (c .before .before .before)))
     (λ c. search needs)
     (λ c κs. tt)
-    (λ c. look-here _ _ _ (sym (c .before .same-bytes5 .ensures) ∙ c .if5 .taken) ∙ sym (left4 (c .before .before .before)))
+    (λ c. look-stop _ _ _ (sym (c .before .same-bytes5 .ensures) ∙ c .if5 .taken) ∙ sym (left4 (c .before .before .before)))
     (λ c. search needs)
     (λ c κs. tt)
-    (λ c. look-here _ _ _ (sym (c .before .same-bytes6 .ensures) ∙ c .if6 .taken) ∙ sym (left5 (c .before .before .before)))
+    (λ c. look-stop _ _ _ (sym (c .before .same-bytes6 .ensures) ∙ c .if6 .taken) ∙ sym (left5 (c .before .before .before)))
     (λ c κs. tt)
     (λ c. c .definition-word .ensures ∙ sym (left6 (c .before))))

@@ -11,7 +11,7 @@ use mir.Facts.{toZ-ofZ}
 use lib.ListN.{length, getD, drop, length-set, length-map}
 use lib.Seq.{sets}
 use Rattle.constraint.specs.Meaning.{word}
-use Rattle.monitor_c.proofs.ListLaws.{sets-past, sets-all, store-more, map-take}
+use Rattle.monitor_c.proofs.ListLaws.{sets-past, sets-all, store-on, map-take}
 use borrow.Author.Needs.{needs}
 use Rattle.monitor_c.proofs.lists.configuration_of.Statement.{statement}
 use Rattle.monitor_c.proofs.lists.configuration_of.Tie as tie
@@ -31,7 +31,7 @@ loop-again c =
     let fits : SFits w64 (getD ws (l .loop .i) (pos 0)) = search needs in (
       omega arith,
       length-set (l .loop .read) (l .loop .i) _ ∙ k,
-      rw (toZ-ofZ fits) (sym (store-more word ws (l .loop .read) (l .loop .i) (pos 0) (omega arith)) ∙ l .loop .inv .2),
+      rw (toZ-ofZ fits) (sym (store-on word ws (l .loop .read) (l .loop .i) (pos 0) (omega arith)) ∙ l .loop .inv .2),
     )
 
 returns : tie.Need-returns Inv-loop μ-loop

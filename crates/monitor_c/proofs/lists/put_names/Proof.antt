@@ -9,7 +9,7 @@ use lib.Seq.{sets}
 use Rattle.text.specs.Split.{span}
 use Rattle.constraint.proofs.Walk.{length-mapped}
 use Rattle.monitor_c.specs.Numbers.{nameNumbers}
-use Rattle.monitor_c.proofs.ListLaws.{sets-written, names-more, length-names}
+use Rattle.monitor_c.proofs.ListLaws.{sets-written, names-on, length-names}
 use borrow.Author.Needs.{needs}
 use Rattle.monitor_c.proofs.lists.put_names.Statement.{statement}
 use Rattle.monitor_c.proofs.lists.put_names.Tie as tie
@@ -28,7 +28,7 @@ loop-again c =
     let e : length ps ≡ 32 = search (needs, length-mapped) in (
       omega arith,
       simp length-set (l .loop .inv .1),
-      sym (names-more ps (l .loop .numbers) (l .loop .i) (span 0 0) (omega arith)) ∙ l .loop .inv .2,
+      sym (names-on ps (l .loop .numbers) (l .loop .i) (span 0 0) (omega arith)) ∙ l .loop .inv .2,
     )
 
 returns : tie.Need-returns Inv-loop μ-loop

@@ -9,7 +9,7 @@ use lib.Seq.{sets, length-sets}
 use Rattle.constraint.proofs.Walk.{length-mapped}
 use Rattle.constraint.specs.Lists.{empty}
 use Rattle.monitor_c.specs.Numbers.{recordNumbers}
-use Rattle.monitor_c.proofs.ListLaws.{sets-written, records-more, length-records}
+use Rattle.monitor_c.proofs.ListLaws.{sets-written, records-on, length-records}
 use borrow.Author.Needs.{needs}
 use Rattle.monitor_c.proofs.lists.put_records.Statement.{statement}
 use Rattle.monitor_c.proofs.lists.put_records.Tie as tie
@@ -36,7 +36,7 @@ loop-again c =
       omega arith,
       ap (λ ns. length ns) (p .ensures) ∙ length-sets (l .loop .numbers) (6 * l .loop .i) (recordNumbers (getD rs (l .loop .i) empty ∷ [])) ∙ l .loop .inv .1,
       ap (λ ns. sets ns (6 * (l .loop .i + 1)) (recordNumbers (drop (l .loop .i + 1) rs))) (p .ensures)
-          ∙ sym (records-more rs (l .loop .numbers) (l .loop .i) empty (omega arith)) ∙ l .loop .inv .2,
+          ∙ sym (records-on rs (l .loop .numbers) (l .loop .i) empty (omega arith)) ∙ l .loop .inv .2,
     )
 
 returns : tie.Need-returns Inv-loop μ-loop

@@ -13,7 +13,7 @@ use lib.ListN.{length, getD, drop, length-set, drop-of-length-le, length-map}
 use lib.Seq.{sets}
 use Rattle.constraint.proofs.Walk.{length-mapped}
 use Rattle.monitor_c.specs.Numbers.{wordNumber, wordNumbers}
-use Rattle.monitor_c.proofs.ListLaws.{sets-written, store-more}
+use Rattle.monitor_c.proofs.ListLaws.{sets-written, store-on}
 use borrow.Author.Needs.{needs}
 use Rattle.monitor_c.proofs.lists.put_words.Statement.{statement}
 use Rattle.monitor_c.proofs.lists.put_words.Tie as tie
@@ -33,7 +33,7 @@ loop-again c =
     let fits : SFits w64 (getD ws (l .loop .i) (word (pos 0)) .0) = search needs in (
       omega arith,
       length-set (l .loop .words) (l .loop .i) _ ∙ l .loop .inv .1,
-      rw (toZ-ofZ fits) (sym (store-more wordNumber ws (l .loop .words) (l .loop .i) (word (pos 0)) (omega arith)) ∙ l .loop .inv .2),
+      rw (toZ-ofZ fits) (sym (store-on wordNumber ws (l .loop .words) (l .loop .i) (word (pos 0)) (omega arith)) ∙ l .loop .inv .2),
     )
 
 returns : tie.Need-returns Inv-loop μ-loop

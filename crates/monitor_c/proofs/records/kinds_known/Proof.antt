@@ -5,7 +5,7 @@ use native.Mathlib.Omega.{arith}
 use borrow.Author.Tests.{le-leb, lt-leb}
 use lib.ListN.{length, drop, getD}
 use Rattle.monitor_c.specs.Numbers.{kindsKnown, allKnown}
-use Rattle.monitor_c.proofs.RecordLaws.{none-left, six-more}
+use Rattle.monitor_c.proofs.RecordLaws.{rows-done, rows-on}
 use borrow.Author.Needs.{needs}
 use Rattle.monitor_c.proofs.records.kinds_known.Statement.{statement}
 use Rattle.monitor_c.proofs.records.kinds_known.Tie as tie
@@ -21,7 +21,7 @@ returns : tie.Need-returns Inv-loop μ-loop
 returns c =
     let l = c .before .before .before in
     let ns = l .before .args .numbers .now in
-    sym (sym (l .loop .inv .1) ∙ ap allKnown (six-more ns (l .loop .at) (omega arith))
+    sym (sym (l .loop .inv .1) ∙ ap allKnown (rows-on ns (l .loop .at) (omega arith))
     ∙ rw (lt-leb (getD ns (l .loop .at) 0) 13 (c .if1 .taken)) refl)
 
 loop-again : tie.Need-loop-again Inv-loop μ-loop
@@ -29,7 +29,7 @@ loop-again c =
     let l = c .before .before .before in
     let ns = l .before .args .numbers .now in (
       omega arith,
-      sym (ap allKnown (six-more ns (l .loop .at) (omega arith)) ∙ rw (le-leb (getD ns (l .loop .at) 0) 13 (c .if1 .left)) refl)
+      sym (ap allKnown (rows-on ns (l .loop .at) (omega arith)) ∙ rw (le-leb (getD ns (l .loop .at) 0) 13 (c .if1 .left)) refl)
           ∙ l .loop .inv .1,
     )
 
@@ -47,4 +47,4 @@ kinds-known-spec =
     (λ c. search needs)
     (λ c. search needs)
     loop-again
-    (λ c. sym (sym (c .before .loop .inv .1) ∙ ap allKnown (none-left (c .before .before .args .numbers .now) (c .before .loop .at) (omega arith)))))
+    (λ c. sym (sym (c .before .loop .inv .1) ∙ ap allKnown (rows-done (c .before .before .args .numbers .now) (c .before .loop .at) (omega arith)))))

@@ -9,7 +9,7 @@ use lib.ListN.{length, drop, set, replicate, length-set}
 use lib.Seq.{sets}
 use Rattle.monitor_c.specs.Numbers.{recordsOf, recordOf}
 use Rattle.monitor_c.proofs.ListLaws.{sets-past}
-use Rattle.monitor_c.proofs.RecordLaws.{none-left, six-more}
+use Rattle.monitor_c.proofs.RecordLaws.{rows-done, rows-on}
 use borrow.Author.Needs.{needs}
 use Rattle.monitor_c.proofs.records.records_of.Statement.{statement}
 use Rattle.monitor_c.proofs.records.records_of.Tie as tie
@@ -26,7 +26,7 @@ returns : tie.Need-returns Inv-loop μ-loop
 returns c =
     let l = c .before .before in
     let ns = l .before .before .before .args .numbers .now in
-    sym (ap (λ ss. sets (l .loop .records) (l .loop .i) (map recordOf ss)) (none-left ns (l .loop .at) (omega arith))) ∙ l .loop .inv .3
+    sym (ap (λ ss. sets (l .loop .records) (l .loop .i) (map recordOf ss)) (rows-done ns (l .loop .at) (omega arith))) ∙ l .loop .inv .3
     ∙ ap (λ e. sets (replicate 66 e) 0 (recordsOf ns)) (l .before .empty .ensures)
 
 loop-again : tie.Need-loop-again Inv-loop μ-loop
@@ -35,7 +35,7 @@ loop-again c =
     let ns = l .before .before .before .args .numbers .now in
     let k : length (l .loop .records) ≡ 66 = l .loop .inv .2 in
     let stored : sets (l .loop .records) (l .loop .i) (recordsOf (drop (l .loop .at) ns)) ≡ sets (set (l .loop .records) (l .loop .i) (c .record-at .result)) (l .loop .i + 1) (recordsOf (drop (l .loop .at + 6) ns)) =
-    rw (six-more ns (l .loop .at) (omega arith), c .record-at .ensures, add-one (l .loop .i)) refl in
+    rw (rows-on ns (l .loop .at) (omega arith), c .record-at .ensures, add-one (l .loop .i)) refl in
     (omega arith, omega arith, length-set (l .loop .records) (l .loop .i) _ ∙ k, sym stored ∙ l .loop .inv .3)
 
 -- no place is left
