@@ -6,15 +6,14 @@ use mathlib.Core.Bool.{Bool, true, false, cond, true≢false, false≢true}
 use mathlib.Core.List.{List, [], _∷_}
 use Prim.Native.Nat.{ℕ, suc, _+_, _≤_, suc-le-suc}
 use native.Mathlib.Omega.{arith}
-use borrow.Author.Tests.{leb-true, eqb-true, eq-eqb}
+use borrow.Author.Tests.{leb-true}
 use lib.Dec.{leb}
-use lib.IntN.{ℤ, pos, negsuc, ℤ-discrete}
 use lib.ListN.{length}
 use Rattle.limit.specs.Limit.{numberOf}
 use Rattle.limit.proofs.Numbers.{refusals-differ}
 use Rattle.constraint.specs.Lists.{at, empty, recordFits, firstUnfit, brokenRecord, firstOut}
-use Rattle.constraint.specs.Meaning.{word, definedOf, wellFormed, inRange}
-use Rattle.constraint.specs.SamePlace.{Answer, answer, AnswerDetermines, same, different, samePlaceOf, sameInteger, sameWord, sameWords, accepts, AllAlike, SomeApart, recordAt, wordAt, Demand3, SamePlaceMeant, Answered}
+use Rattle.constraint.specs.Meaning.{definedOf, wellFormed, inRange}
+use Rattle.constraint.specs.SamePlace.{Answer, answer, AnswerDetermines, same, different, samePlaceOf, sameWord, sameWords, accepts, AllAlike, SomeApart, recordAt, wordAt, Demand3, SamePlaceMeant, Answered}
 use Rattle.constraint.specs.Ticks.{Ticks, none, addingAll}
 use Rattle.constraint.specs.declared.Broken.{Broken}
 use Rattle.constraint.specs.declared.Broken.the-variants.{Nowhere}
@@ -23,8 +22,8 @@ use Rattle.constraint.specs.declared.SamePlace.{SamePlace}
 use Rattle.constraint.specs.declared.SamePlace.the-variants.{Refused, Same, Different}
 use Rattle.constraint.specs.declared.Word.{Word}
 use Rattle.constraint.proofs.Booleans.{and-l, and-r, never}
-use Rattle.constraint.proofs.Letters.{at-most}
 use Rattle.constraint.proofs.OneRecord.{words-apart, words-alike}
+use Rattle.constraint.proofs.Words.{word-discrete, same-yes, same-self, only-zero}
 
 -- ---- what it means that a limit is broken nowhere
 
@@ -59,35 +58,20 @@ records-pass clocks earlier i (r ∷ rs) h e =
 
 -- ---- the test of two configurations
 
-same-yes : (z y : ℤ) → sameInteger z y ≡ true → z ≡ y
-same-yes (pos m) (pos n) e = ap pos (eqb-true m n e)
-same-yes (pos m) (negsuc n) e = absurd (false≢true e)
-same-yes (negsuc m) (pos n) e = absurd (false≢true e)
-same-yes (negsuc m) (negsuc n) e = ap negsuc (eqb-true m n e)
-
-same-self : (z : ℤ) → sameInteger z z ≡ true
-same-self (pos m) = eq-eqb m m refl
-same-self (negsuc m) = eq-eqb m m refl
-
 words-yes : (ws vs : List Word) → sameWords ws vs ≡ true → ws ≡ vs
 words-yes [] [] e = refl
 words-yes [] (v ∷ vs) e = absurd (false≢true e)
 words-yes (w ∷ ws) [] e = absurd (false≢true e)
-words-yes (w ∷ ws) (v ∷ vs) e = ap₂ _∷_ (ap word (same-yes (w .0) (v .0) (and-l _ _ e))) (words-yes ws vs (and-r (sameWord w v) _ e))
+words-yes (w ∷ ws) (v ∷ vs) e = ap₂ _∷_ (same-yes w v (and-l _ _ e)) (words-yes ws vs (and-r (sameWord w v) _ e))
 
 words-self : (ws : List Word) → sameWords ws ws ≡ true
 words-self [] = refl
-words-self (w ∷ ws) = rw (same-self (w .0)) (words-self ws)
+words-self (w ∷ ws) = rw (same-self w) (words-self ws)
 
 words-same : (ws vs : List Word) → ws ≡ vs → sameWords ws vs ≡ true
 words-same ws vs e = rw (← e) (words-self ws)
 
 -- ---- beyond the records all words are 0
-
-zero-word : (z y : ℤ) → inRange empty (word z) ≡ true → inRange empty (word y) ≡ true → z ≡ y
-zero-word (pos m) (pos n) p q = ap pos (omega (arith, at-most (pos 0) 0 m p, at-most (pos 0) 0 n q))
-zero-word (pos m) (negsuc n) p q = absurd (false≢true q)
-zero-word (negsuc m) y p q = absurd (false≢true p)
 
 zeros : (i : ℕ) (ws vs : List Word) → length ws ≡ length vs → firstOut i [] ws ≡ Nowhere → firstOut i [] vs ≡ Nowhere → ws ≡ vs
 zeros i [] [] l p q = refl
@@ -96,7 +80,7 @@ zeros i (w ∷ ws) [] l p q = absurd (omega arith)
 zeros i (w ∷ ws) (v ∷ vs) l p q =
     let a = nowhere (inRange empty w) _ i p in
     let b = nowhere (inRange empty v) _ i q in
-    ap₂ _∷_ (ap word (zero-word (w .0) (v .0) (a .0) (b .0))) (zeros (suc i) ws vs (omega arith) (a .1) (b .1))
+    ap₂ _∷_ (only-zero w (a .0) ∙ sym (only-zero v (b .0))) (zeros (suc i) ws vs (omega arith) (a .1) (b .1))
 
 -- ---- the list: its head and its tail
 
@@ -119,11 +103,11 @@ told clocks earlier i (r ∷ rs) (w ∷ ws) (v ∷ vs) ok l m p q =
     vr = nowhere _ _ i q .0
 
     step : Told clocks rs ws vs → Told clocks (r ∷ rs) (w ∷ ws) (v ∷ vs)
-    step t = (λ d. other (ℤ-discrete (w .0) (v .0)) d, λ s. ap₂ _∷_ (words-alike clocks r (record-passes clocks earlier i r rs ok) w v wr vr (s 0 (omega arith))) (t .1 (λ j h. s (suc j) (suc-le-suc h))))
+    step t = (λ d. other (word-discrete w v) d, λ s. ap₂ _∷_ (words-alike clocks r (record-passes clocks earlier i r rs ok) w v wr vr (s 0 (omega arith))) (t .1 (λ j h. s (suc j) (suc-le-suc h))))
       where
-        other : Dec (w .0 ≡ v .0) → (w ∷ ws) ≢ (v ∷ vs) → SomeApart clocks (r ∷ rs) (w ∷ ws) (v ∷ vs)
-        other (yes e) d = let o = t .0 (λ f. d (ap₂ _∷_ (ap word e) f)) in (suc (o .0), suc-le-suc (o .1), o .2)
-        other (no n) d = (0, omega arith, words-apart clocks r (record-passes clocks earlier i r rs ok) w v wr vr (λ e. n (ap (λ (x : Word). x .0) e)))
+        other : Dec (w ≡ v) → (w ∷ ws) ≢ (v ∷ vs) → SomeApart clocks (r ∷ rs) (w ∷ ws) (v ∷ vs)
+        other (yes e) d = let o = t .0 (λ f. d (ap₂ _∷_ e f)) in (suc (o .0), suc-le-suc (o .1), o .2)
+        other (no n) d = (0, omega arith, words-apart clocks r (record-passes clocks earlier i r rs ok) w v wr vr n)
 
 -- ---- demand 3: for every list of records, every clock count and every two configurations of 64 words
 pub demand-3 : SamePlaceMeant

@@ -9,7 +9,7 @@ use native.Mathlib.Omega.{arith}
 use borrow.Author.Tests.{leb-true, le-leb}
 use lib.Dec.{leb}
 use lib.IntN.{ℤ, pos, negsuc}
-use Rattle.constraint.specs.Meaning.{word, positive, above, is, due, holdsWhen, counterOf, counterRange, within, tally, change, moved, holds, nextWord, start, inRange}
+use Rattle.constraint.specs.Meaning.{word, positive, above, is, due, holdsWhen, counterOf, counterRange, fits, tally, change, moved, holds, nextWord, start, inRange}
 use Rattle.constraint.specs.Ticks.{Ticks, none}
 use Rattle.constraint.specs.declared.Change.the-variants.{Keep, Zero, One}
 use Rattle.constraint.specs.declared.Constraint.{Constraint}
@@ -62,32 +62,32 @@ next-none r w = rw (change-none (counterOf (r .kind)) w)
 
 -- ---- start words are in range
 
-start-within : (k : Counter) (n : Parameter) → within (counterRange k n) (counterRange k n .start) ≡ true
-start-within Fixed n = refl
-start-within Gap n = refl
-start-within Lead n = refl
-start-within Countdown n = rw (le-leb 0 (n .0) (omega arith), le-leb (n .0) (n .0) (omega arith))
-start-within StrictSample n = refl
-start-within Sample n = refl
-start-within Until n = refl
+start-fits : (k : Counter) (n : Parameter) → fits (counterRange k n) (word (counterRange k n .start)) ≡ true
+start-fits Fixed n = refl
+start-fits Gap n = refl
+start-fits Lead n = refl
+start-fits Countdown n = rw (le-leb 0 (n .0) (omega arith), le-leb (n .0) (n .0) (omega arith))
+start-fits StrictSample n = refl
+start-fits Sample n = refl
+start-fits Until n = refl
 
 pub start-in-range : (r : Constraint) → inRange r (start r) ≡ true
-start-in-range r = start-within (counterOf (r .kind)) (r .parameter)
+start-in-range r = start-fits (counterOf (r .kind)) (r .parameter)
 
 -- ---- where a record holds from a word in range, the next word is in range, or passes a million by one
 
 -- past a million by one: of the four forms with a million alone
-abbrev pub Past : Counter → ℤ → Type 0
-Past Fixed z = ⊥
-Past Gap z = z ≡ pos 1_000_001
-Past Lead z = (z ≡ pos 1_000_001) ⊎ (z ≡ negsuc 1_000_000)
-Past Countdown z = ⊥
-Past StrictSample z = ⊥
-Past Sample z = ⊥
-Past Until z = ⊥
+abbrev pub Past : Counter → Word → Type 0
+Past Fixed w = ⊥
+Past Gap w = w ≡ word (pos 1_000_001)
+Past Lead w = (w ≡ word (pos 1_000_001)) ⊎ (w ≡ word (negsuc 1_000_000))
+Past Countdown w = ⊥
+Past StrictSample w = ⊥
+Past Sample w = ⊥
+Past Until w = ⊥
 
 abbrev Lands : Counter → Parameter → Word → Type 0
-Lands k n w = (within (counterRange k n) (w .0) ≡ true) ⊎ Past k (w .0)
+Lands k n w = (fits (counterRange k n) w ≡ true) ⊎ Past k w
 
 -- a number of at most top, and one more of less than top
 at-most : (top m : ℕ) → (leb 0 m && leb m top) ≡ true → m ≤ top
@@ -96,27 +96,27 @@ at-most top m e = leb-true m top (and-r (leb 0 m) _ e)
 in-most : (top m : ℕ) → m ≤ top → (leb 0 m && leb m top) ≡ true
 in-most top m h = rw (le-leb 0 m (omega arith), le-leb m top h)
 
-gap-next : (n : Parameter) (a b : Bool) (z : ℤ) → within (counterRange Gap n) z ≡ true → (a ≡ false → b ≡ true → positive z ≡ true) → Lands Gap n (moved (tally a b) (word z))
+gap-next : (n : Parameter) (a b : Bool) (z : ℤ) → fits (counterRange Gap n) (word z) ≡ true → (a ≡ false → b ≡ true → positive z ≡ true) → Lands Gap n (moved (tally a b) (word z))
 gap-next n true true z e h = inl e
 gap-next n false false z e h = inl e
 gap-next n true false (pos m) e h = go (decLt m 1_000_000)
   where
     go : Dec (m < 1_000_000) → Lands Gap n (word (pos (suc m)))
     go (yes p) = inl (in-most 1_000_000 (suc m) p)
-    go (no p) = inr (ap pos (omega (arith, at-most 1_000_000 m e)))
+    go (no p) = inr (ap (λ (i : ℕ). word (pos i)) (omega (arith, at-most 1_000_000 m e)))
 gap-next n true false (negsuc m) e h = absurd (false≢true e)
 gap-next n false true (pos zero) e h = absurd (false≢true (h refl refl))
 gap-next n false true (pos (suc m)) e h = inl (in-most 1_000_000 m (omega (arith, at-most 1_000_000 (suc m) e)))
 gap-next n false true (negsuc m) e h = absurd (false≢true e)
 
-lead-next : (n : Parameter) (a b : Bool) (z : ℤ) → within (counterRange Lead n) z ≡ true → Lands Lead n (moved (tally a b) (word z))
+lead-next : (n : Parameter) (a b : Bool) (z : ℤ) → fits (counterRange Lead n) (word z) ≡ true → Lands Lead n (moved (tally a b) (word z))
 lead-next n true true z e = inl e
 lead-next n false false z e = inl e
 lead-next n true false (pos m) e = go (decLt m 1_000_000)
   where
     go : Dec (m < 1_000_000) → Lands Lead n (word (pos (suc m)))
     go (yes p) = inl (le-leb (suc m) 1_000_000 p)
-    go (no p) = inr (inl (ap pos (omega (arith, leb-true m 1_000_000 e))))
+    go (no p) = inr (inl (ap (λ (i : ℕ). word (pos i)) (omega (arith, leb-true m 1_000_000 e))))
 lead-next n true false (negsuc zero) e = inl refl
 lead-next n true false (negsuc (suc m)) e = inl (rw (le-leb m 999_999 (omega (arith, leb-true (suc m) 999_999 (and-l _ _ e)))))
 lead-next n false true (pos zero) e = inl refl
@@ -125,27 +125,27 @@ lead-next n false true (negsuc m) e = go (decLt m 999_999)
   where
     go : Dec (m < 999_999) → Lands Lead n (word (negsuc (suc m)))
     go (yes p) = inl (rw (le-leb (suc m) 999_999 p))
-    go (no p) = inr (inr (ap negsuc (omega (arith, leb-true m 999_999 (and-l _ _ e)))))
+    go (no p) = inr (inr (ap (λ (i : ℕ). word (negsuc i)) (omega (arith, leb-true m 999_999 (and-l _ _ e)))))
 
-countdown-next : (n : Parameter) (a b : Bool) (z : ℤ) → within (counterRange Countdown n) z ≡ true → Lands Countdown n (moved (change Countdown (word z) a b) (word z))
+countdown-next : (n : Parameter) (a b : Bool) (z : ℤ) → fits (counterRange Countdown n) (word z) ≡ true → Lands Countdown n (moved (change Countdown (word z) a b) (word z))
 countdown-next n true b (pos zero) e = inl e
 countdown-next n true b (pos (suc m)) e = inl (in-most (n .0) m (omega (arith, at-most (n .0) (suc m) e)))
 countdown-next n true b (negsuc m) e = inl e
 countdown-next n false b z e = rw (and-false (positive z)) (inl e)
 
 -- the sampling counters and upto: a change leads to 0 or to 1
-strict-next : (n : Parameter) (p q : Bool) (z : ℤ) → within (counterRange StrictSample n) z ≡ true → Lands StrictSample n (moved (cond p One (cond q Zero Keep)) (word z))
+strict-next : (n : Parameter) (p q : Bool) (z : ℤ) → fits (counterRange StrictSample n) (word z) ≡ true → Lands StrictSample n (moved (cond p One (cond q Zero Keep)) (word z))
 strict-next n true q z e = inl refl
 strict-next n false true z e = inl refl
 strict-next n false false z e = inl e
 
-sample-next : (n : Parameter) (o p q : Bool) (z : ℤ) → within (counterRange Sample n) z ≡ true → Lands Sample n (moved (cond o Zero (cond p One (cond q Zero Keep))) (word z))
+sample-next : (n : Parameter) (o p q : Bool) (z : ℤ) → fits (counterRange Sample n) (word z) ≡ true → Lands Sample n (moved (cond o Zero (cond p One (cond q Zero Keep))) (word z))
 sample-next n true p q z e = inl refl
 sample-next n false true q z e = inl refl
 sample-next n false false true z e = inl refl
 sample-next n false false false z e = inl e
 
-until-next : (n : Parameter) (q : Bool) (z : ℤ) → within (counterRange Until n) z ≡ true → Lands Until n (moved (cond q Zero Keep) (word z))
+until-next : (n : Parameter) (q : Bool) (z : ℤ) → fits (counterRange Until n) (word z) ≡ true → Lands Until n (moved (cond q Zero Keep) (word z))
 until-next n true z e = inl refl
 until-next n false z e = inl e
 
@@ -161,7 +161,7 @@ b-strictly true a b e p q = refl
 b-strictly false a true e p q = e
 b-strictly false a false e p q = q
 
-next-lands : (k : Kind) (n : Parameter) (w : Word) (a b c : Bool) → within (counterRange (counterOf k) n) (w .0) ≡ true → holdsWhen k w a b c ≡ true → Lands (counterOf k) n (moved (change (counterOf k) w a b) w)
+next-lands : (k : Kind) (n : Parameter) (w : Word) (a b c : Bool) → fits (counterRange (counterOf k) n) w ≡ true → holdsWhen k w a b c ≡ true → Lands (counterOf k) n (moved (change (counterOf k) w a b) w)
 next-lands Empty n w a b c e h = inl e
 next-lands (Relates Coincides) n w a b c e h = inl e
 next-lands (Relates Excludes) n w a b c e h = inl e
@@ -177,5 +177,5 @@ next-lands (Defines StrictlySampled) n w a b c e h = strict-next n (is 2 w && a)
 next-lands (Defines Sampled) n w a b c e h = sample-next n (is 2 w && (a && b)) (is 2 w && a) (is 1 w && b) (w .0) e
 next-lands (Defines Upto) n w a b c e h = until-next n (is 1 w && b) (w .0) e
 
-pub next-in-range : (r : Constraint) (w : Word) (F : Ticks) → inRange r w ≡ true → holds r w F ≡ true → (inRange r (nextWord r w F) ≡ true) ⊎ Past (counterOf (r .kind)) (nextWord r w F .0)
+pub next-in-range : (r : Constraint) (w : Word) (F : Ticks) → inRange r w ≡ true → holds r w F ≡ true → (inRange r (nextWord r w F) ≡ true) ⊎ Past (counterOf (r .kind)) (nextWord r w F)
 next-in-range r w F e h = next-lands (r .kind) (r .parameter) w _ _ _ e h

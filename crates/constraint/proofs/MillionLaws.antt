@@ -2,13 +2,13 @@
 -- its million. With the test of one word before that of its form. Assumes nothing.
 use mathlib.Core.Path.{_≡_, refl, sym, _∙_}
 use mathlib.Core.Logic.{_⊎_, inl, inr}
-use mathlib.Core.Bool.{true, false, false≢true, and-true}
+use mathlib.Core.Bool.{true, false≢true, and-true}
 use mathlib.Core.List.{[], _∷_}
 use denote.Enum.Declared.{tagOf}
 use types.Run.{OneOf, miss}
 use lib.Dec.{leb, leb·suc-suc}
 use lib.IntN.{ℤ, pos, negsuc, natAbs}
-use Rattle.constraint.specs.Meaning.{counterOf, counterRange, within, holds, nextWord, inRange}
+use Rattle.constraint.specs.Meaning.{word, counterOf, counterRange, fits, holds, nextWord, inRange}
 use Rattle.constraint.specs.Million.{withinMillion, inMillion}
 use Rattle.constraint.specs.Ticks.{Ticks}
 use Rattle.constraint.specs.declared.Constraint.{Constraint}
@@ -23,53 +23,59 @@ use Rattle.constraint.proofs.Laws.{Past, next-in-range}
 -- ---- one word
 
 -- the range of a lead is its million
-pub lead-million : (n : Parameter) (z : ℤ) → within (counterRange Lead n) z ≡ leb (natAbs z) 1_000_000
-lead-million n (pos m) = refl
-lead-million n (negsuc m) = and-true (leb m 999_999) ∙ sym (leb·suc-suc m 999_999)
+pub lead-million : (n : Parameter) (w : Word) → fits (counterRange Lead n) w ≡ leb (natAbs (w .0)) 1_000_000
+lead-million n w = go (w .0)
+  where
+    go : (z : ℤ) → fits (counterRange Lead n) (word z) ≡ leb (natAbs z) 1_000_000
+    go (pos m) = refl
+    go (negsuc m) = and-true (leb m 999_999) ∙ sym (leb·suc-suc m 999_999)
 
-in-million : (k : Counter) (n : Parameter) (z : ℤ) → within (counterRange k n) z ≡ true → withinMillion k z ≡ true
-in-million Fixed n z e = refl
-in-million Gap n (pos m) e = and-r (leb 0 m) _ e
-in-million Gap n (negsuc m) e = absurd (false≢true e)
-in-million Lead n z e = sym (lead-million n z) ∙ e
-in-million Countdown n z e = refl
-in-million StrictSample n z e = refl
-in-million Sample n z e = refl
-in-million Until n z e = refl
+gap-million : (n : Parameter) (z : ℤ) → fits (counterRange Gap n) (word z) ≡ true → withinMillion Gap (word z) ≡ true
+gap-million n (pos m) e = and-r (leb 0 m) _ e
+gap-million n (negsuc m) e = absurd (false≢true e)
 
-past-million : (k : Counter) (n : Parameter) (z : ℤ) → Past k z → within (counterRange k n) z ≡ withinMillion k z
-past-million Fixed n z p = absurd p
-past-million Gap n z p = rw p
-past-million Lead n z p = lead-million n z
-past-million Countdown n z p = absurd p
-past-million StrictSample n z p = absurd p
-past-million Sample n z p = absurd p
-past-million Until n z p = absurd p
+in-million : (k : Counter) (n : Parameter) (w : Word) → fits (counterRange k n) w ≡ true → withinMillion k w ≡ true
+in-million Fixed n w e = refl
+in-million Gap n w e = gap-million n (w .0) e
+in-million Lead n w e = sym (lead-million n w) ∙ e
+in-million Countdown n w e = refl
+in-million StrictSample n w e = refl
+in-million Sample n w e = refl
+in-million Until n w e = refl
 
-lands : (k : Counter) (n : Parameter) (z : ℤ) → (within (counterRange k n) z ≡ true) ⊎ Past k z → within (counterRange k n) z ≡ withinMillion k z
-lands k n z (inl e) = e ∙ sym (in-million k n z e)
-lands k n z (inr p) = past-million k n z p
+past-million : (k : Counter) (n : Parameter) (w : Word) → Past k w → fits (counterRange k n) w ≡ withinMillion k w
+past-million Fixed n w p = absurd p
+past-million Gap n w p = rw p
+past-million Lead n w p = lead-million n w
+past-million Countdown n w p = absurd p
+past-million StrictSample n w p = absurd p
+past-million Sample n w p = absurd p
+past-million Until n w p = absurd p
+
+lands : (k : Counter) (n : Parameter) (w : Word) → (fits (counterRange k n) w ≡ true) ⊎ Past k w → fits (counterRange k n) w ≡ withinMillion k w
+lands k n w (inl e) = e ∙ sym (in-million k n w e)
+lands k n w (inr p) = past-million k n w p
 
 -- ---- the test of a word, before that of the form
 
-pub near-million : (k : Counter) (z : ℤ) → leb (natAbs z) 1_000_000 ≡ true → withinMillion k z ≡ true
-near-million Fixed z e = refl
-near-million Gap z e = e
-near-million Lead z e = e
-near-million Countdown z e = refl
-near-million StrictSample z e = refl
-near-million Sample z e = refl
-near-million Until z e = refl
+pub near-million : (k : Counter) (w : Word) → leb (natAbs (w .0)) 1_000_000 ≡ true → withinMillion k w ≡ true
+near-million Fixed w e = refl
+near-million Gap w e = e
+near-million Lead w e = e
+near-million Countdown w e = refl
+near-million StrictSample w e = refl
+near-million Sample w e = refl
+near-million Until w e = refl
 
 -- counters but a gap and a lead; the numbers are the places of their variants
-pub no-million : (k : Counter) (z : ℤ) → OneOf (0 ∷ 3 ∷ 4 ∷ 5 ∷ 6 ∷ []) (tagOf counter.the-type k) → withinMillion k z ≡ true
-no-million Fixed z h = refl
-no-million Gap z h = absurd (miss (0 ∷ 3 ∷ 4 ∷ 5 ∷ 6 ∷ []) 1 tt h)
-no-million Lead z h = absurd (miss (0 ∷ 3 ∷ 4 ∷ 5 ∷ 6 ∷ []) 2 tt h)
-no-million Countdown z h = refl
-no-million StrictSample z h = refl
-no-million Sample z h = refl
-no-million Until z h = refl
+pub no-million : (k : Counter) (w : Word) → OneOf (0 ∷ 3 ∷ 4 ∷ 5 ∷ 6 ∷ []) (tagOf counter.the-type k) → withinMillion k w ≡ true
+no-million Fixed w h = refl
+no-million Gap w h = absurd (miss (0 ∷ 3 ∷ 4 ∷ 5 ∷ 6 ∷ []) 1 tt h)
+no-million Lead w h = absurd (miss (0 ∷ 3 ∷ 4 ∷ 5 ∷ 6 ∷ []) 2 tt h)
+no-million Countdown w h = refl
+no-million StrictSample w h = refl
+no-million Sample w h = refl
+no-million Until w h = refl
 
 -- ---- one record, which held with a word in range
 pub range-is-million : (r : Constraint) (w : Word) (F : Ticks) → inRange r w ≡ true → holds r w F ≡ true → inRange r (nextWord r w F) ≡ inMillion r (nextWord r w F)

@@ -1,21 +1,17 @@
 -- Slots: the list that an array of records and a count stand for. What stands at a place of it, how many there are, one more record, and the
 -- word of a slot that limit 60 lets pass. Assumes nothing.
 use mathlib.Core.Path.{_≡_, refl, ap}
-use mathlib.Core.Bool.{true, false≢true}
+use mathlib.Core.Bool.{true}
 use mathlib.Core.List.{List, [], _∷_, _++_}
 use Prim.Native.Nat.{ℕ, zero, suc, _≤_, _<_}
 use native.Mathlib.Omega.{arith}
-use borrow.Author.Tests.{leb-true}
-use lib.Dec.{leb}
-use lib.IntN.{ℤ, pos, negsuc}
 use lib.ListN.{length, drop, getD, set}
 use lib.Seq.{drop-nil}
 use Rattle.constraint.specs.Lists.{empty, slots, firstOut}
-use Rattle.constraint.specs.Meaning.{word, within, wordRange, inRange}
+use Rattle.constraint.specs.Meaning.{inRange}
 use Rattle.constraint.specs.declared.Broken.the-variants.{Nowhere}
 use Rattle.constraint.specs.declared.Constraint.{Constraint}
 use Rattle.constraint.specs.declared.Word.{Word}
-use Rattle.constraint.proofs.Booleans.{and-r}
 use Rattle.constraint.proofs.Demand3.{nowhere}
 
 -- ---- what stands at a place
@@ -88,11 +84,3 @@ slot-in-range k (suc n) (r ∷ rs) [] i d v e more slot inside = absurd (omega a
 slot-in-range k (suc n) (r ∷ rs) (w ∷ ws) zero d v e more slot inside = nowhere (inRange r w) _ k e .0
 slot-in-range k (suc n) (r ∷ rs) (w ∷ ws) (suc i) d v e more slot inside =
     slot-in-range (suc k) n rs ws i d v (nowhere (inRange r w) _ k e .1) (omega arith) (omega arith) (omega arith)
-
--- the one word in range of an empty slot
-pub only-zero : (w : Word) → inRange empty w ≡ true → w ≡ word (pos 0)
-only-zero w e = ap word (go (w .0) e)
-  where
-    go : (z : ℤ) → within (wordRange empty) z ≡ true → z ≡ pos 0
-    go (pos m) e = let h : m ≤ 0 = leb-true m 0 (and-r (leb 0 m) _ e) in ap pos (omega arith)
-    go (negsuc m) e = absurd (false≢true e)

@@ -202,8 +202,12 @@ start r = word (wordRange r .start)
 abbrev pub within : Range → ℤ → Bool
 within s z = leZ (s .low) z && leZ z (s .high)
 
+-- a word in a range
+abbrev pub fits : Range → Word → Bool
+fits s w = within s (w .0)
+
 abbrev pub inRange : Constraint → Word → Bool
-inRange r w = within (wordRange r) (w .0)
+inRange r w = fits (wordRange r) w
 
 abbrev pub definedOf : Constraint → List ℕ
 definedOf r = definedBy (r .kind) (r .defined)

@@ -19,18 +19,18 @@ use Rattle.constraint.specs.declared.Relation.the-variants.{Precedes}
 use Rattle.constraint.specs.declared.Word.{Word}
 
 -- a million either way, -1,000,000 to 1,000,000: of both precedences (Gap), lub and glb (Lead); no other form has a million to leave
-abbrev pub withinMillion : Counter → ℤ → Bool
-withinMillion Fixed z = true
-withinMillion Gap z = leb (natAbs z) 1_000_000
-withinMillion Lead z = leb (natAbs z) 1_000_000
-withinMillion Countdown z = true
-withinMillion StrictSample z = true
-withinMillion Sample z = true
-withinMillion Until z = true
+abbrev pub withinMillion : Counter → Word → Bool
+withinMillion Fixed w = true
+withinMillion Gap w = leb (natAbs (w .0)) 1_000_000
+withinMillion Lead w = leb (natAbs (w .0)) 1_000_000
+withinMillion Countdown w = true
+withinMillion StrictSample w = true
+withinMillion Sample w = true
+withinMillion Until w = true
 
 -- of a record
 abbrev pub inMillion : Constraint → Word → Bool
-inMillion r w = withinMillion (counterOf (r .kind)) (w .0)
+inMillion r w = withinMillion (counterOf (r .kind)) w
 
 -- the first record whose word is past its million, the first of these having the place i
 abbrev pub firstPast : (i : ℕ) → List Constraint → List Word → Broken

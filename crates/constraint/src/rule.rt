@@ -237,12 +237,18 @@ pub fn start(constraint: Constraint) -> Word
     Word(s.start)
 }
 
+// Whether a word is in a range.
+fn fits(s: Range, w: Word) -> bool
+    ensures { λ r. ⌜ r ≡ m.fits s w ⌝ }
+{
+    (s.low <= w.0) & (w.0 <= s.high)
+}
+
 // Whether a word is in the record's range.
 pub fn in_range(constraint: Constraint, w: Word) -> bool
     ensures { λ r. ⌜ r ≡ m.inRange constraint w ⌝ }
 {
-    let s = word_range(constraint);
-    (s.low <= w.0) & (w.0 <= s.high)
+    fits(word_range(constraint), w)
 }
 
 // Whether the record's word is within its million, either way: of a gap and a lead; no other counter has a million to leave. The word is

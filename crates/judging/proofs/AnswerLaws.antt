@@ -24,7 +24,7 @@ use Rattle.constraint.specs.declared.Configuration.{Configuration}
 use Rattle.constraint.specs.declared.Constraint.{Constraint}
 use Rattle.constraint.specs.declared.Word.{Word}
 use Rattle.constraint.proofs.Demand3.{nowhere}
-use Rattle.constraint.proofs.Slots.{only-zero}
+use Rattle.constraint.proofs.Words.{only-zero}
 use Rattle.judging.specs.Answers.{HasBoth, Holds, Stays, All, FirstNot, Passes, StepRefuses, by-records, by-words, by-ticks, by-million, StepViolates, StepAccepts, EveryStepAnswers}
 use Rattle.judging.specs.Single.{StepSaid, accepted, violated, refused, StepTold, StepSaidDetermines, refusesAt, beyondClocks, judgedTold, stepOf}
 use Rattle.judging.specs.Step.{firstFailing, moved, handedBack, judged}

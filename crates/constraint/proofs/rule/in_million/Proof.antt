@@ -17,13 +17,13 @@ returns : tie.Need-returns
 returns c =
     let s = c .before .before .before .before .before .args in
     let f : SFits w64 (s .w .0) = search needs in
-    sym (near-million (counterOf (s .constraint .kind)) (s .w .0) (sym (lead-million (s .constraint .parameter) (s .w .0)) ∙ (rw (toZ-ofZ f) at (c .if1 .taken))))
+    sym (near-million (counterOf (s .constraint .kind)) (s .w) (sym (lead-million (s .constraint .parameter) (s .w)) ∙ (rw (toZ-ofZ f) at (c .if1 .taken))))
 
 far : (c : tie.Else1) → leb (natAbs (c .before .before .before .before .before .args .w .0)) 1_000_000 ≡ false
 far c =
     let s = c .before .before .before .before .before .args in
     let f : SFits w64 (s .w .0) = search needs in
-    sym (lead-million (s .constraint .parameter) (s .w .0)) ∙ (rw (toZ-ofZ f) at (c .if1 .left))
+    sym (lead-million (s .constraint .parameter) (s .w)) ∙ (rw (toZ-ofZ f) at (c .if1 .left))
 
 -- the counter that the match is on is the form's
 counter : (c : tie.After-counter-of) → c .counter-of .result ≡ counterOf (c .before .before .before .before .before .before .args .constraint .kind)
