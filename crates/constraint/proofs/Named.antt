@@ -15,69 +15,64 @@ use Rattle.constraint.specs.declared.Kind.the-variants.{Empty, Relates, 
 use Rattle.constraint.specs.declared.Word.{Word}
 use Rattle.constraint.proofs.Definition as declared
 
--- every definition but await has two operands; the numbers are the places of their variants
+-- ---- how many operands a definition has: an await one, every other two
+
+pub data Arity : Definition → Type 1 where
+  two : {k : Definition} → ((A : Type 0) (a b : A) → operands k a b ≡ a ∷ b ∷ []) → Arity k
+  one : Arity Await
+
+pub arity : (k : Definition) → Arity k
+arity Union = two (λ A a b. refl)
+arity Inter = two (λ A a b. refl)
+arity Lub = two (λ A a b. refl)
+arity Glb = two (λ A a b. refl)
+arity Await = one
+arity StrictlySampled = two (λ A a b. refl)
+arity Sampled = two (λ A a b. refl)
+arity Upto = two (λ A a b. refl)
+
+-- every definition but await; the numbers are the places of their variants
 pub two-operands : (k : Definition) (a b : ℕ) → OneOf (0 ∷ 1 ∷ 2 ∷ 3 ∷ 5 ∷ 6 ∷ 7 ∷ []) (tagOf declared.the-type k) → operands k a b ≡ a ∷ b ∷ []
-two-operands Union a b h = refl
-two-operands Inter a b h = refl
-two-operands Lub a b h = refl
-two-operands Glb a b h = refl
-two-operands Await a b h = absurd (miss (0 ∷ 1 ∷ 2 ∷ 3 ∷ 5 ∷ 6 ∷ 7 ∷ []) 4 tt h)
-two-operands StrictlySampled a b h = refl
-two-operands Sampled a b h = refl
-two-operands Upto a b h = refl
+two-operands k a b h = go k (arity k) h
+  where
+    go : (k : Definition) → Arity k → OneOf (0 ∷ 1 ∷ 2 ∷ 3 ∷ 5 ∷ 6 ∷ 7 ∷ []) (tagOf declared.the-type k) → operands k a b ≡ a ∷ b ∷ []
+    go k (two f) h = f ℕ a b
+    go Await one h = absurd (miss (0 ∷ 1 ∷ 2 ∷ 3 ∷ 5 ∷ 6 ∷ 7 ∷ []) 4 tt h)
 
 -- ---- which places of a form are named does not depend on what stands there
 
-map-operands : {A B : Type 0} (f : A → B) (k : Definition) (a b : A) → map f (operands k a b) ≡ operands k (f a) (f b)
-map-operands f Union a b = refl
-map-operands f Inter a b = refl
-map-operands f Lub a b = refl
-map-operands f Glb a b = refl
-map-operands f Await a b = refl
-map-operands f StrictlySampled a b = refl
-map-operands f Sampled a b = refl
-map-operands f Upto a b = refl
+map-operands : {A B : Type 0} (f : A → B) {k : Definition} → Arity k → (a b : A) → map f (operands k a b) ≡ operands k (f a) (f b)
+map-operands f (two e) a b = rw (e _ a b, e _ (f a) (f b))
+map-operands f one a b = refl
 
 pub map-named : {A B : Type 0} (f : A → B) (k : Kind) (a b c : A) → map f (named k a b c) ≡ named k (f a) (f b) (f c)
 map-named f Empty a b c = refl
 map-named f (Relates k) a b c = refl
-map-named f (Defines k) a b c = rw (map-operands f k a b)
+map-named f (Defines k) a b c = rw (map-operands f (arity k) a b)
 
 -- ---- a form looks only at the clocks that it names
 
-due-named : (k : Definition) (w : Word) (a b x y : Bool) → operands k a b ≡ operands k x y → due k w a b ≡ due k w x y
-due-named Union w a b x y e = cc
-due-named Inter w a b x y e = cc
-due-named Lub w a b x y e = cc
-due-named Glb w a b x y e = cc
-due-named Await w a b x y e = cc
-due-named StrictlySampled w a b x y e = cc
-due-named Sampled w a b x y e = cc
-due-named Upto w a b x y e = cc
+due-named : {k : Definition} → Arity k → (w : Word) (a b x y : Bool) → operands k a b ≡ operands k x y → due k w a b ≡ due k w x y
+due-named (two f) w a b x y e = let t : a ∷ b ∷ [] ≡ x ∷ y ∷ [] = sym (f Bool a b) ∙ e ∙ f Bool x y in cc
+due-named one w a b x y e = cc
 
 pub holds-named : (k : Kind) (w : Word) (a b c x y z : Bool) → named k a b c ≡ named k x y z → holdsWhen k w a b c ≡ holdsWhen k w x y z
 holds-named Empty w a b c x y z e = refl
 holds-named (Relates k) w a b c x y z e = cc
 holds-named (Defines k) w a b c x y z e =
     let t : operands k a b ≡ operands k x y = cc in
-    cc (due-named k w a b x y t)
+    cc (due-named (arity k) w a b x y t)
 
-change-operands : (k : Definition) (w : Word) (a b x y : Bool) → operands k a b ≡ operands k x y → change (counterOf (Defines k)) w a b ≡ change (counterOf (Defines k)) w x y
-change-operands Union w a b x y e = refl
-change-operands Inter w a b x y e = refl
-change-operands Lub w a b x y e = cc
-change-operands Glb w a b x y e = cc
-change-operands Await w a b x y e = cc
-change-operands StrictlySampled w a b x y e = cc
-change-operands Sampled w a b x y e = cc
-change-operands Upto w a b x y e = cc
+change-operands : {k : Definition} → Arity k → (w : Word) (a b x y : Bool) → operands k a b ≡ operands k x y → change (counterOf (Defines k)) w a b ≡ change (counterOf (Defines k)) w x y
+change-operands (two f) w a b x y e = let t : a ∷ b ∷ [] ≡ x ∷ y ∷ [] = sym (f Bool a b) ∙ e ∙ f Bool x y in cc
+change-operands one w a b x y e = cc
 
 pub change-named : (k : Kind) (w : Word) (a b c x y z : Bool) → named k a b c ≡ named k x y z → change (counterOf k) w a b ≡ change (counterOf k) w x y
 change-named Empty w a b c x y z e = refl
 change-named (Relates k) w a b c x y z e = cc
 change-named (Defines k) w a b c x y z e =
     let t : operands k a b ≡ operands k x y = cc in
-    change-operands k w a b x y t
+    change-operands (arity k) w a b x y t
 
 -- ---- of a record: two tick sets that agree on its clocks are one to it
 module _ (r : Constraint) (w : Word) (F G : Ticks) (e : map F (clocksOf r) ≡ map G (clocksOf r)) where

@@ -1,3 +1,4 @@
+pub mod Determined
 pub mod FormClocks
 pub mod NamesKnown
 pub mod Passes

@@ -107,6 +107,10 @@ abbrev pub said : Check → Said
 said Passed = read
 said (Refused r) = refused (numberOf (r .limit)) (r .place .0)
 
+-- the claim: no two values of the answer in code have one meaning
+abbrev pub SaidDetermines : Type 0
+SaidDetermines = (x y : Check) → said x ≡ said y → x ≡ y
+
 abbrev pub told : TableRead → Told
 told r = record { said = said (r .outcome); table = r .table }
 
