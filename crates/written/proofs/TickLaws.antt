@@ -1,39 +1,16 @@
 -- The clocks of a list added one after another are the set of them, as a number. Assumes nothing.
-use Prim.Native.Nat.{ℕ, zero, suc, _+_, _*_, _/_, _%_, _^_, _<_}
-use mathlib.Core.Path.{_≡_, refl, sym, ap, ap₂, _∙_}
+use Prim.Native.Nat.{ℕ, _^_, _<_}
+use mathlib.Core.Path.{_≡_, refl, sym, ap, _∙_}
 use mathlib.Core.List.{List, [], _∷_}
 use mathlib.Core.Bool.{Bool, true, false, _||_, or-false}
 use native.Mathlib.Decide.{decLt}
-use native.Mathlib.Nat.{div-div-eq-div-mul, pow-succ'}
 use native.Mathlib.Omega.{arith}
-use borrow.Author.Tests.{eq-eqb, ne-eqb, lt-ltb, le-ltb}
+use borrow.Author.Tests.{ne-eqb, lt-ltb, le-ltb}
 use lib.Bits.{or-lt}
 use lib.Dec.{eqb}
 use lib.Pow.{pow-lt}
-use Rattle.constraint.specs.Ticks.{Ticks, none, addingAll, bits, bit, number, withTick}
-use Rattle.constraint.proofs.TickSets.{with-tick-adds, with-tick-full, bits-zero}
-
--- ---- a number is that of its bits
-
-half-bits : (f i : ℕ) → bits f (suc i) ≡ bits (f / 2) i
-half-bits f i = ap (λ (m : ℕ). eqb (m % 2) 1) (ap (λ (d : ℕ). f / d) (pow-succ' 2 i) ∙ sym (div-div-eq-div-mul f 2 (2 ^ i)))
-
-low-bit : (f : ℕ) → bit (bits f 0) ≡ f % 2
-low-bit f = go (decLt (f % 2) 1)
-  where
-    go : Dec (f % 2 < 1) → bit (eqb (f / 1 % 2) 1) ≡ f % 2
-    go (yes h) = rw (ne-eqb (f / 1 % 2) 1 (λ z. omega arith)) (omega arith)
-    go (no h) = rw (eq-eqb (f / 1 % 2) 1 (omega arith)) (omega arith)
-
-number-same : (n : ℕ) (F G : Ticks) → ((i : ℕ) → i < n → F i ≡ G i) → number n F ≡ number n G
-number-same zero F G h = refl
-number-same (suc n) F G h = ap₂ (λ (x : ℕ) (y : Bool). x * 2 + bit y) (number-same n (λ i. F (suc i)) (λ i. G (suc i)) (λ i k. h (suc i) (omega arith))) (h 0 (omega arith))
-
-number-bits : (n f : ℕ) → f < 2 ^ n → number n (bits f) ≡ f
-number-bits zero f h = omega arith
-number-bits (suc n) f h =
-    let rest : number n (λ i. bits f (suc i)) ≡ f / 2 = number-same n _ (bits (f / 2)) (λ i k. half-bits f i) ∙ number-bits n (f / 2) (omega arith) in
-    omega (arith, rest, low-bit f)
+use Rattle.constraint.specs.Ticks.{Ticks, none, addingAll, bits, number, withTick}
+use Rattle.constraint.proofs.TickSets.{with-tick-adds, with-tick-full, bits-zero, number-same, number-bits}
 
 -- ---- clocks added one after another
 
