@@ -11,12 +11,13 @@ use lib.Dec.{leb}
 use lib.ListN.{length}
 use Rattle.limit.specs.Limit.{numberOf}
 use Rattle.limit.proofs.Numbers.{refusals-differ}
-use Rattle.constraint.specs.Lists.{at, empty, recordFits, firstUnfit, brokenRecord, firstOut}
+use Rattle.constraint.specs.Lists.{at, empty, recordFits, firstUnfit, countsFit, brokenRecord, firstOut}
 use Rattle.constraint.specs.Meaning.{definedOf, wellFormed, inRange}
 use Rattle.constraint.specs.SamePlace.{Answer, answer, AnswerDetermines, same, different, samePlaceOf, sameWord, sameWords, accepts, AllAlike, SomeApart, recordAt, wordAt, Demand3, SamePlaceMeant, Answered}
 use Rattle.constraint.specs.Ticks.{Ticks, none, addingAll}
 use Rattle.constraint.specs.declared.Broken.{Broken}
 use Rattle.constraint.specs.declared.Broken.the-variants.{Nowhere}
+use Rattle.constraint.specs.declared.Clocks.{Clocks}
 use Rattle.constraint.specs.declared.Constraint.{Constraint}
 use Rattle.constraint.specs.declared.SamePlace.{SamePlace}
 use Rattle.constraint.specs.declared.SamePlace.the-variants.{Refused, Same, Different}
@@ -31,25 +32,25 @@ pub nowhere : (t : Bool) (x : Broken) (i : ℕ) → cond t x (at i) ≡ Nowhere 
 nowhere true x i e = (refl, e)
 nowhere false x i e = let z : _≡_ {A = ℕ} 0 1 = cc in absurd (omega arith)
 
-pub clocks-pass : (clocks : ℕ) (rs : List Constraint) → brokenRecord clocks rs ≡ Nowhere → (clocks ≤ 32) × (firstUnfit clocks none 1 rs ≡ Nowhere)
-clocks-pass clocks rs e = let p = nowhere (leb clocks 32) _ 0 e in (leb-true clocks 32 (p .0), p .1)
+pub clocks-pass : (clocks : Clocks) (rs : List Constraint) → brokenRecord clocks rs ≡ Nowhere → (clocks .count ≤ 32) × (firstUnfit clocks none 1 rs ≡ Nowhere)
+clocks-pass clocks rs e = let p = nowhere (countsFit clocks) _ 0 e in (leb-true (clocks .count) 32 (p .0), p .1)
 
 -- of the first record, and of those after it
-module _ (clocks : ℕ) (earlier : Ticks) (i : ℕ) (r : Constraint) (rs : List Constraint) (e : firstUnfit clocks earlier i (r ∷ rs) ≡ Nowhere) where
+module _ (clocks : Clocks) (earlier : Ticks) (i : ℕ) (r : Constraint) (rs : List Constraint) (e : firstUnfit clocks earlier i (r ∷ rs) ≡ Nowhere) where
   fits : recordFits clocks earlier i r ≡ true
   fits = nowhere _ _ i e .0
 
   pub place-passes : i ≤ 64
   place-passes = leb-true i 64 (and-l (leb i 64) _ fits)
 
-  pub record-passes : wellFormed clocks r ≡ true
+  pub record-passes : wellFormed (clocks .count) r ≡ true
   record-passes = and-l _ _ (and-r (leb i 64) _ fits)
 
   pub later-pass : firstUnfit clocks (addingAll (definedOf r) earlier) (suc i) rs ≡ Nowhere
   later-pass = nowhere (recordFits clocks earlier i r) _ i e .1
 
 -- at most 64 records pass
-pub records-pass : (clocks : ℕ) (earlier : Ticks) (i : ℕ) (rs : List Constraint) → i ≤ 65 → firstUnfit clocks earlier i rs ≡ Nowhere → i + length rs ≤ 65
+pub records-pass : (clocks : Clocks) (earlier : Ticks) (i : ℕ) (rs : List Constraint) → i ≤ 65 → firstUnfit clocks earlier i rs ≡ Nowhere → i + length rs ≤ 65
 records-pass clocks earlier i [] h e = omega arith
 records-pass clocks earlier i (r ∷ rs) h e =
     let p = place-passes clocks earlier i r rs e in
@@ -84,10 +85,10 @@ zeros i (w ∷ ws) (v ∷ vs) l p q =
 
 -- ---- the list: its head and its tail
 
-abbrev Told : (clocks : ℕ) (rs : List Constraint) (ws vs : List Word) → Type 0
+abbrev Told : (clocks : Clocks) (rs : List Constraint) (ws vs : List Word) → Type 0
 Told clocks rs ws vs = (ws ≢ vs → SomeApart clocks rs ws vs) × (AllAlike clocks rs ws vs → ws ≡ vs)
 
-told : (clocks : ℕ) (earlier : Ticks) (i : ℕ) (rs : List Constraint) (ws vs : List Word)
+told : (clocks : Clocks) (earlier : Ticks) (i : ℕ) (rs : List Constraint) (ws vs : List Word)
     → firstUnfit clocks earlier i rs ≡ Nowhere → length ws ≡ length vs → length rs ≤ length ws
     → firstOut i rs ws ≡ Nowhere → firstOut i rs vs ≡ Nowhere → Told clocks rs ws vs
 told clocks earlier i [] ws vs ok l m p q = (λ d. absurd (d (zeros i ws vs l p q)), λ s. zeros i ws vs l p q)
@@ -134,7 +135,7 @@ demand-3 clocks rs ws vs lw lv p59 p60 q60 = rw (p59, p60, q60) (go (sameWords w
         ((λ s. let z : _≡_ {A = ℕ} 0 1 = cc in absurd (omega arith), λ s. absurd (ne (t .1 s))), (λ s. t .0 ne, λ o. refl))
 
 -- what a call promises follows from its answer being the definition's
-pub answered : (clocks : ℕ) (rs : List Constraint) (ws vs : List Word) → length ws ≡ 64 → length vs ≡ 64 → (said : Answer) → said ≡ samePlaceOf clocks rs ws vs → Answered clocks rs ws vs said
+pub answered : (clocks : Clocks) (rs : List Constraint) (ws vs : List Word) → length ws ≡ 64 → length vs ≡ 64 → (said : Answer) → said ≡ samePlaceOf clocks rs ws vs → Answered clocks rs ws vs said
 answered clocks rs ws vs lw lv said e = record { given = e; meant = rw e (demand-3 clocks rs ws vs lw lv) }
 
 -- an answer in document 01's words is the answer of one value alone

@@ -8,10 +8,11 @@ use Rattle.constraint.specs.Lists.{brokenRecord, brokenWord}
 use Rattle.constraint.specs.SamePlace.{Answer, refused, same, different, refuseAt, sameWords, samePlaceOf, SamePlaceRefuses, by-records, by-first, by-second, SamePlaceRefused}
 use Rattle.constraint.specs.declared.Broken.{Broken}
 use Rattle.constraint.specs.declared.Broken.the-variants.{Nowhere, At}
+use Rattle.constraint.specs.declared.Clocks.{Clocks}
 use Rattle.constraint.specs.declared.Constraint.{Constraint}
 use Rattle.constraint.specs.declared.Word.{Word}
 
-module _ (clocks : ℕ) (rs : List Constraint) (ws vs : List Word) where
+module _ (clocks : Clocks) (rs : List Constraint) (ws vs : List Word) where
   abbrev Declining : Answer → Type 0
   Declining (refused n p) = SamePlaceRefuses clocks rs ws vs n p
   Declining same = Unit {0}

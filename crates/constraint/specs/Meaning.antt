@@ -212,8 +212,11 @@ inRange r w = fits (wordRange r) w
 abbrev pub definedOf : Constraint → List ℕ
 definedOf r = definedBy (r .kind) (r .defined)
 
+abbrev pub usedOf : Constraint → List ℕ
+usedOf r = operandsOf (r .kind) (r .first) (r .second)
+
 abbrev pub clocksOf : Constraint → List ℕ
-clocksOf r = named (r .kind) (r .first) (r .second) (r .defined)
+clocksOf r = definedOf r ++ usedOf r
 
 -- ---- 59, as far as it looks at one record: a clock number not below the clock count, a clock twice, an await number out of range
 

@@ -9,6 +9,7 @@ use limit::Place;
 use limit::Refusal;
 pub use place::broken_record;
 pub use place::broken_word;
+pub use place::counts_fit;
 pub use place::defines_again;
 pub use place::empty;
 pub use place::record_fits;
@@ -67,6 +68,11 @@ pub struct Constraint {
     pub second: u8,
     pub parameter: Parameter,
     pub line: Place,
+}
+
+// How many clocks there are: of the records of a table.
+pub struct Clocks {
+    pub count: u8,
 }
 
 // A constraint's part of a configuration: w of document 01's table.

@@ -6,6 +6,7 @@ use lib.ListN.{set, replicate}
 use Rattle.constraint.specs.Lists.{empty}
 use Rattle.constraint.specs.Meaning.{definedOf}
 use Rattle.constraint.specs.Ticks.{withTicks}
+use Rattle.constraint.specs.declared.Clocks.{Clocks}
 use Rattle.constraint.specs.declared.Constraint.{Constraint}
 use Rattle.text.specs.Split.{span}
 use Rattle.grammar.specs.declared.Builder.{Builder}
@@ -41,3 +42,7 @@ withConstraint b ns n r =
 -- the table once its last line is read
 abbrev pub finish : Builder → Table
 finish b = record { records = b .records; count = b .count; names = b .names }
+
+-- a table's clocks
+abbrev pub clocksIn : Table → Clocks
+clocksIn t = record { count = t .names .count }

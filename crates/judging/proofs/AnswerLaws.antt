@@ -20,6 +20,7 @@ use Rattle.constraint.specs.SamePlace.{recordAt, wordAt}
 use Rattle.constraint.specs.Ticks.{Ticks, bits}
 use Rattle.constraint.specs.declared.Broken.{Broken}
 use Rattle.constraint.specs.declared.Broken.the-variants.{Nowhere, At}
+use Rattle.constraint.specs.declared.Clocks.{Clocks}
 use Rattle.constraint.specs.declared.Configuration.{Configuration}
 use Rattle.constraint.specs.declared.Constraint.{Constraint}
 use Rattle.constraint.specs.declared.Word.{Word}
@@ -141,7 +142,7 @@ module _ (rs : List Constraint) (ws : List Word) (f : ℕ) where
   none-past g = none-found inMillion 1 rs moves (λ i h. let k : i < length ws = omega (arith, as-many) in next-at i k ∙ g i (h .0, k))
 
 -- ---- the checks, one by one
-module _ (clocks : ℕ) (rs : List Constraint) (c : Configuration) (f : ℕ) where
+module _ (clocks : Clocks) (rs : List Constraint) (c : Configuration) (f : ℕ) where
   abbrev after : List Word
   after = moved (bits f) rs (c .words)
 
@@ -164,16 +165,16 @@ module _ (clocks : ℕ) (rs : List Constraint) (c : Configuration) (f : ℕ) whe
   judging ok Nowhere Nowhere e q = (record { passes = ok; hold = e; stay = all-stay rs (c .words) f q }, refl)
 
   module _ (p59 : brokenRecord clocks rs ≡ Nowhere) where
-    ticks : brokenWord rs (c .words) ≡ Nowhere → (x : Bool) → ltb f (2 ^ clocks) ≡ x → Answers (refusesAt TickSet (cond x Nowhere (at 0)) c judges)
+    ticks : brokenWord rs (c .words) ≡ Nowhere → (x : Bool) → ltb f (2 ^ clocks .count) ≡ x → Answers (refusesAt TickSet (cond x Nowhere (at 0)) c judges)
     unfolding judged
     ticks p60 true u =
-        judging (record { records = p59; words = p60; ticks = ltb-true f (2 ^ clocks) u }) (firstFailing (bits f) 1 rs (c .words)) (firstPast 1 rs after)
+        judging (record { records = p59; words = p60; ticks = ltb-true f (2 ^ clocks .count) u }) (firstFailing (bits f) 1 rs (c .words)) (firstPast 1 rs after)
         (found (holding rs (c .words) f) 1 rs (c .words)) (found inMillion 1 rs after)
-    ticks p60 false u = (by-ticks p59 p60 (ltb-false f (2 ^ clocks) u), refl)
+    ticks p60 false u = (by-ticks p59 p60 (ltb-false f (2 ^ clocks .count) u), refl)
 
     words : (x : Broken) → brokenWord rs (c .words) ≡ x → Answers (refusesAt ConfigurationWord x c (refusesAt TickSet (beyondClocks clocks f) c judges))
     words (At p) e = (by-words p59 e, refl)
-    words Nowhere e = ticks e (ltb f (2 ^ clocks)) refl
+    words Nowhere e = ticks e (ltb f (2 ^ clocks .count)) refl
 
   records : (x : Broken) → brokenRecord clocks rs ≡ x
       → Answers (refusesAt Records x c (refusesAt ConfigurationWord (brokenWord rs (c .words)) c (refusesAt TickSet (beyondClocks clocks f) c judges)))
@@ -188,13 +189,13 @@ module _ (clocks : ℕ) (rs : List Constraint) (c : Configuration) (f : ℕ) whe
 
   passed : Passes clocks rs (c .words) f → stepOf clocks rs c f ≡ judges
   unfolding stepOf
-  passed ok = rw (ok .records, ok .words, lt-ltb f (2 ^ clocks) (ok .ticks))
+  passed ok = rw (ok .records, ok .words, lt-ltb f (2 ^ clocks .count) (ok .ticks))
 
   refuses-step : {n p : ℕ} → StepRefuses clocks rs (c .words) f n p → stepOf clocks rs c f .said ≡ refused n p
   unfolding stepOf judged
   refuses-step (by-records e) = rw e
   refuses-step (by-words e q) = rw (e, q)
-  refuses-step (by-ticks e q u) = rw (e, q, le-ltb f (2 ^ clocks) u)
+  refuses-step (by-ticks e q u) = rw (e, q, le-ltb f (2 ^ clocks .count) u)
   refuses-step (by-million ok h g) = rw (passed ok, none-found (holding rs (c .words) f) 1 rs (c .words) h, first-past rs (c .words) f g)
 
   violates-step : {p : ℕ} → StepViolates clocks rs (c .words) f p → stepOf clocks rs c f .said ≡ violated p

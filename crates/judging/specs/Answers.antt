@@ -16,6 +16,7 @@ use Rattle.constraint.specs.Million.{inMillion}
 use Rattle.constraint.specs.SamePlace.{recordAt, wordAt}
 use Rattle.constraint.specs.Ticks.{bits}
 use Rattle.constraint.specs.declared.Broken.the-variants.{Nowhere, At}
+use Rattle.constraint.specs.declared.Clocks.{Clocks}
 use Rattle.constraint.specs.declared.Configuration.{Configuration}
 use Rattle.constraint.specs.declared.Constraint.{Constraint}
 use Rattle.constraint.specs.declared.Word.{Word}
@@ -48,25 +49,25 @@ pub record FirstNot (rs : List Constraint) (ws : List Word) (P : ℕ → Type 0)
 -- ---- when a step is refused, violated, accepted
 
 -- 59, 60 and 61 let the step pass
-pub record Passes (clocks : ℕ) (rs : List Constraint) (ws : List Word) (f : ℕ) : Type 0 where
+pub record Passes (clocks : Clocks) (rs : List Constraint) (ws : List Word) (f : ℕ) : Type 0 where
   pub records : brokenRecord clocks rs ≡ Nowhere
   pub words : brokenWord rs ws ≡ Nowhere
-  pub ticks : f < 2 ^ clocks
+  pub ticks : f < 2 ^ clocks .count
 
 -- refused: 59; 60; 61; and 51, after every constraint held; each where those before it are kept
-pub data StepRefuses (clocks : ℕ) (rs : List Constraint) (ws : List Word) (f : ℕ) : (number place : ℕ) → Type 0 where
+pub data StepRefuses (clocks : Clocks) (rs : List Constraint) (ws : List Word) (f : ℕ) : (number place : ℕ) → Type 0 where
   by-records : {p : Place} → brokenRecord clocks rs ≡ At p → StepRefuses clocks rs ws f (numberOf Records) (p .0)
   by-words : {p : Place} → brokenRecord clocks rs ≡ Nowhere → brokenWord rs ws ≡ At p → StepRefuses clocks rs ws f (numberOf ConfigurationWord) (p .0)
-  by-ticks : brokenRecord clocks rs ≡ Nowhere → brokenWord rs ws ≡ Nowhere → 2 ^ clocks ≤ f → StepRefuses clocks rs ws f (numberOf TickSet) 0
+  by-ticks : brokenRecord clocks rs ≡ Nowhere → brokenWord rs ws ≡ Nowhere → 2 ^ clocks .count ≤ f → StepRefuses clocks rs ws f (numberOf TickSet) 0
   by-million : {p : ℕ} → Passes clocks rs ws f → All rs ws (Holds rs ws f) → FirstNot rs ws (Stays rs ws f) p → StepRefuses clocks rs ws f (numberOf Million) p
 
 -- violated: the record at this place is the first that fails
-pub record StepViolates (clocks : ℕ) (rs : List Constraint) (ws : List Word) (f place : ℕ) : Type 0 where
+pub record StepViolates (clocks : Clocks) (rs : List Constraint) (ws : List Word) (f place : ℕ) : Type 0 where
   pub passes : Passes clocks rs ws f
   pub fails : FirstNot rs ws (Holds rs ws f) place
 
 -- accepted: every constraint holds, and no word leaves its million
-pub record StepAccepts (clocks : ℕ) (rs : List Constraint) (ws : List Word) (f : ℕ) : Type 0 where
+pub record StepAccepts (clocks : Clocks) (rs : List Constraint) (ws : List Word) (f : ℕ) : Type 0 where
   pub passes : Passes clocks rs ws f
   pub hold : All rs ws (Holds rs ws f)
   pub stay : All rs ws (Stays rs ws f)
@@ -74,7 +75,7 @@ pub record StepAccepts (clocks : ℕ) (rs : List Constraint) (ws : List Word) (f
 -- ---- the claims: exactly then; what is not accepted hands back the configuration that it was given; what is accepted moves every word by the
 -- rules, and leaves those beyond the records 0
 
-pub record StepAnswers (clocks : ℕ) (rs : List Constraint) (c : Configuration) (f : ℕ) : Type 0 where
+pub record StepAnswers (clocks : Clocks) (rs : List Constraint) (c : Configuration) (f : ℕ) : Type 0 where
   pub refuses : (n p : ℕ) → stepOf clocks rs c f .said ≡ refused n p ↔ StepRefuses clocks rs (c .words) f n p
   pub violates : (p : ℕ) → stepOf clocks rs c f .said ≡ violated p ↔ StepViolates clocks rs (c .words) f p
   pub accepts : stepOf clocks rs c f .said ≡ accepted ↔ StepAccepts clocks rs (c .words) f
@@ -84,4 +85,4 @@ pub record StepAnswers (clocks : ℕ) (rs : List Constraint) (c : Configuration)
   pub beyond : stepOf clocks rs c f .said ≡ accepted → (i : ℕ) → length rs ≤ i → wordAt (stepOf clocks rs c f .configuration .words) i ≡ word (pos 0)
 
 abbrev pub EveryStepAnswers : Type 0
-EveryStepAnswers = (clocks : ℕ) (rs : List Constraint) (c : Configuration) (f : ℕ) → StepAnswers clocks rs c f
+EveryStepAnswers = (clocks : Clocks) (rs : List Constraint) (c : Configuration) (f : ℕ) → StepAnswers clocks rs c f

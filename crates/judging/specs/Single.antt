@@ -9,11 +9,12 @@ use lib.IntN.{ℤ, pos}
 use Rattle.limit.specs.Limit.{numberOf}
 use Rattle.limit.specs.declared.Limit.{Limit}
 use Rattle.limit.specs.declared.Limit.the-variants.{Records, ConfigurationWord, TickSet, Million}
-use Rattle.constraint.specs.Lists.{at, brokenRecord, brokenWord}
+use Rattle.constraint.specs.Lists.{at, counting, brokenRecord, brokenWord}
 use Rattle.constraint.specs.Meaning.{word}
 use Rattle.constraint.specs.Ticks.{bits}
 use Rattle.constraint.specs.declared.Broken.{Broken}
 use Rattle.constraint.specs.declared.Broken.the-variants.{Nowhere, At}
+use Rattle.constraint.specs.declared.Clocks.{Clocks}
 use Rattle.constraint.specs.declared.Configuration.{Configuration}
 use Rattle.constraint.specs.declared.Constraint.{Constraint}
 use Rattle.constraint.specs.declared.Definition.the-variants.{Await}
@@ -58,8 +59,8 @@ refusesAt l Nowhere c t = t
 refusesAt l (At p) c t = record { said = refused (numberOf l) (p .0); configuration = c }
 
 -- 61: tick set with a bit at or above the clock count, place 0
-abbrev pub beyondClocks : (clocks ticks : ℕ) → Broken
-beyondClocks clocks f = cond (ltb f (2 ^ clocks)) Nowhere (at 0)
+abbrev pub beyondClocks : Clocks → (ticks : ℕ) → Broken
+beyondClocks clocks f = cond (ltb f (2 ^ clocks .count)) Nowhere (at 0)
 
 abbrev pub outcomeSaid : Outcome → StepSaid
 outcomeSaid Held = accepted
@@ -70,7 +71,7 @@ abbrev pub judgedTold : Judged → StepTold
 judgedTold j = record { said = outcomeSaid (j .outcome); configuration = j .configuration }
 
 -- 59, 60, 61, then judging, then 51
-unfoldable pub stepOf : (clocks : ℕ) → List Constraint → Configuration → (ticks : ℕ) → StepTold
+unfoldable pub stepOf : Clocks → List Constraint → Configuration → (ticks : ℕ) → StepTold
 stepOf clocks rs c f =
     refusesAt Records (brokenRecord clocks rs) c
     (refusesAt ConfigurationWord (brokenWord rs (c .words)) c
@@ -89,23 +90,23 @@ abbrev from : (w v : ℤ) → Configuration
 from w v = record { words = word w ∷ word v ∷ [] }
 
 -- from the start words: {req}; {req, ack}, in which ack has no req before it; a fourth clock, and a clock count of 2
-req : stepOf 3 exampleRecords (from (pos 0) (pos 2)) 1 ≡ record { said = accepted; configuration = from (pos 1) (pos 2) }
+req : stepOf (counting 3) exampleRecords (from (pos 0) (pos 2)) 1 ≡ record { said = accepted; configuration = from (pos 1) (pos 2) }
 unfolding stepOf judged
 req = refl
 
-req-and-ack : stepOf 3 exampleRecords (from (pos 0) (pos 2)) 3 ≡ record { said = violated 1; configuration = from (pos 0) (pos 2) }
+req-and-ack : stepOf (counting 3) exampleRecords (from (pos 0) (pos 2)) 3 ≡ record { said = violated 1; configuration = from (pos 0) (pos 2) }
 unfolding stepOf judged
 req-and-ack = refl
 
-fourth-clock : stepOf 3 exampleRecords (from (pos 0) (pos 2)) 8 .said ≡ refused 61 0
+fourth-clock : stepOf (counting 3) exampleRecords (from (pos 0) (pos 2)) 8 .said ≡ refused 61 0
 unfolding stepOf
 fourth-clock = refl
 
-two-clocks : stepOf 2 exampleRecords (from (pos 0) (pos 2)) 1 .said ≡ refused 59 2
+two-clocks : stepOf (counting 2) exampleRecords (from (pos 0) (pos 2)) 1 .said ≡ refused 59 2
 unfolding stepOf
 two-clocks = refl
 
 -- {req} from a million
-past-a-million : stepOf 3 exampleRecords (from (pos 1_000_000) (pos 2)) 1 ≡ record { said = refused 51 1; configuration = from (pos 1_000_000) (pos 2) }
+past-a-million : stepOf (counting 3) exampleRecords (from (pos 1_000_000) (pos 2)) 1 ≡ record { said = refused 51 1; configuration = from (pos 1_000_000) (pos 2) }
 unfolding stepOf judged
 past-a-million = refl

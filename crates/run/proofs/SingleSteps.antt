@@ -7,8 +7,10 @@ use borrow.Author.Tests.{lt-ltb}
 use Rattle.constraint.specs.Lists.{brokenRecord, brokenWord}
 use Rattle.constraint.specs.Ticks.{bits}
 use Rattle.constraint.specs.declared.Broken.the-variants.{Nowhere}
+use Rattle.constraint.specs.declared.Clocks.{Clocks}
 use Rattle.constraint.specs.declared.Configuration.{Configuration}
 use Rattle.constraint.specs.declared.Constraint.{Constraint}
+use Rattle.grammar.specs.Building.{clocksIn}
 use Rattle.grammar.specs.declared.Table.{Table}
 use Rattle.table.specs.Reader as table
 use Rattle.table.proofs.Passes.{every-table-passes}
@@ -22,10 +24,10 @@ use Rattle.run.specs.Run.{Said, violated, recordsOf, tableOf, readingBy}
 use Rattle.run.proofs.JudgingLaws.{accepted-in-range, judged-on, judged-stop, judged-full, line-of-first}
 
 -- a step that 59, 60 and 61 let pass is judged
-step-judged : (clocks : ℕ) (rs : List Constraint) (c : Configuration) (f : ℕ) → brokenRecord clocks rs ≡ Nowhere → brokenWord rs (c .words) ≡ Nowhere → f < 2 ^ clocks
+step-judged : (clocks : Clocks) (rs : List Constraint) (c : Configuration) (f : ℕ) → brokenRecord clocks rs ≡ Nowhere → brokenWord rs (c .words) ≡ Nowhere → f < 2 ^ clocks .count
     → stepOf clocks rs c f ≡ judgedTold (judged (bits f) rs c)
 unfolding stepOf
-step-judged clocks rs c f p59 p60 p61 = rw (p59, p60, lt-ltb f (2 ^ clocks) p61)
+step-judged clocks rs c f p59 p60 p61 = rw (p59, p60, lt-ltb f (2 ^ clocks .count) p61)
 
 -- the steps before an accepted one are accepted
 accepted-before : (all : List Constraint) (before later : List Step) (s : Step) → Accepted all (before ++ s ∷ later) → Accepted all before
@@ -41,7 +43,7 @@ module _ (t r : List ℕ) (e : table.readTable t .said ≡ table.read) where
   single-step ss before later s q h =
       let p = every-table-passes t e in
       let ticks = reading-ticking (b .names .count) (p .clocks) _ (named-clock t (b .names)) r in
-      step-judged (b .names .count) (recordsOf b) (after b ss) (s .ticks) (p .records) (accepted-in-range b p ss h) (one-ticking (b .names .count) (p .clocks) before later s (rw q at ticks))
+      step-judged (clocksIn b) (recordsOf b) (after b ss) (s .ticks) (p .records) (accepted-in-range b p ss h) (one-ticking (b .names .count) (p .clocks) before later s (rw q at ticks))
 
   stops-at : (ss left : List Step) (x : Ending) (said : Said) → Accepted (b .records) ss → readingBy t r .steps ≡ ss ++ left → Ends (b .records) x ss left said
       → (later : List Step) (s : Step) → left ≡ s ∷ later → Stops b (after b ss) s said

@@ -14,6 +14,7 @@ use Rattle.constraint.specs.Ticks.{bits}
 use Rattle.constraint.specs.declared.Configuration.{Configuration}
 use Rattle.constraint.specs.declared.Constraint.{Constraint}
 use Rattle.constraint.specs.declared.Word.{Word}
+use Rattle.grammar.specs.Building.{clocksIn}
 use Rattle.grammar.specs.declared.Table.{Table}
 use Rattle.recording.specs.Body.{Ending, Reading}
 use Rattle.recording.specs.declared.Step.{Step}
@@ -72,7 +73,7 @@ after b ss = record { words = map (wordAfter ss) (b .records) }
 
 -- a step of the run, asked as a single step on the table's records
 abbrev pub stepOn : Table → Configuration → Step → StepTold
-stepOn b c s = stepOf (b .names .count) (recordsOf b) c (s .ticks)
+stepOn b c s = stepOf (clocksIn b) (recordsOf b) c (s .ticks)
 
 -- the step that stops a run is violated, and the run names the line of its record; or 51, and the run names the step's mark
 pub data Stops (b : Table) (c : Configuration) (s : Step) : Said → Type 0 where

@@ -11,7 +11,7 @@ use lib.ListN.{length, take, drop, length-append}
 use Rattle.limit.specs.Checked.{Checked, passed, stopped, refuseIf, andThen}
 use Rattle.limit.specs.declared.Limit.{Limit}
 use Rattle.limit.specs.declared.Limit.the-variants.{TableLength, LineByte, NameLength, AwaitNumber, ClockTwice, DefinedTwice, TableClocks, TableConstraints}
-use Rattle.constraint.specs.Lists.{slots, firstUnfit, brokenRecord, brokenWord, startWords}
+use Rattle.constraint.specs.Lists.{counting, slots, firstUnfit, brokenRecord, brokenWord, startWords}
 use Rattle.constraint.specs.Meaning.{definedOf, clocksOf, wellFormed}
 use Rattle.constraint.specs.Ticks.{none, any, addingAll, bits}
 use Rattle.constraint.specs.declared.Broken.the-variants.{Nowhere}
@@ -42,7 +42,7 @@ record Good (b : Builder) : Type 0 where
   most : length listed ≤ 64
   spans : length (b .names .spans) ≡ 32
   room : b .names .count ≤ 32
-  fit : firstUnfit (b .names .count) none 1 listed ≡ Nowhere
+  fit : firstUnfit (counting (b .names .count)) none 1 listed ≡ Nowhere
   defined : bits (b .defined) ≡ definedIn none listed
 
 good-start : Good start
@@ -56,8 +56,8 @@ module _ (t : List ℕ) (b : Builder) (g : Good b) (ws : List Span) where
   grown : Grown t (b .names) ws names
   grown = all-words t (b .names) (g .spans) (g .room) ws
 
-  fit-names : firstUnfit (names .count) none 1 (g .listed) ≡ Nowhere
-  fit-names = clocks-more (b .names .count) (names .count) (grown .more) none 1 (g .listed) (g .fit)
+  fit-names : firstUnfit (counting (names .count)) none 1 (g .listed) ≡ Nowhere
+  fit-names = clocks-more (counting (b .names .count)) (counting (names .count)) (grown .more) none 1 (g .listed) (g .fit)
 
 -- ---- a line
 abbrev AfterStep : Checked Builder → Type 0
@@ -82,7 +82,7 @@ module _ (t : List ℕ) (n : ℕ) (b : Builder) (g : Good b) where
         most = omega arith;
         spans = grown t b g ws .spans;
         room = grown t b g ws .room;
-        fit = fits-more (names t b g ws .count) none 1 (g .listed) (onItsLine n r) (fit-names t b g ws) (omega arith) w (rw (← g .defined) p16);
+        fit = fits-more (counting (names t b g ws .count)) none 1 (g .listed) (onItsLine n r) (fit-names t b g ws) (omega arith) w (rw (← g .defined) p16);
         defined = defined-bits (names t b g ws .count) (b .defined) r (grown t b g ws .room) w ∙ ap (addingAll (definedOf r)) (g .defined) ∙ sym (defined-more none (g .listed) (onItsLine n r));
       })
 
@@ -119,10 +119,10 @@ module _ (t : List ℕ) (n : ℕ) (b : Builder) (g : Good b) where
 good-passes : (b : Builder) → Good b → Passes (finish b)
 good-passes b g =
     let e : slots (b .count) (b .records) ≡ g .listed = rw (g .records, g .count) (slots-slots 64 (g .listed) (g .most)) in
-    let p59 : brokenRecord (b .names .count) (g .listed) ≡ Nowhere = rw (le-leb (b .names .count) 32 (g .room), g .fit) in
+    let p59 : brokenRecord (counting (b .names .count)) (g .listed) ≡ Nowhere = rw (le-leb (b .names .count) 32 (g .room), g .fit) in
     let p60 : brokenWord (g .listed) (startWords (b .records)) ≡ Nowhere = rw (g .records) (start-passes 1 64 (g .listed)) in
     record {
-      records = ap (brokenRecord (b .names .count)) e ∙ p59;
+      records = ap (brokenRecord (counting (b .names .count))) e ∙ p59;
       words = ap (λ rs. brokenWord rs (startWords (b .records))) e ∙ p60;
       constraints = omega (arith, g .count, g .most);
       clocks = g .room;

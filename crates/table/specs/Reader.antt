@@ -20,7 +20,7 @@ use Rattle.text.specs.Bytes.{inClass, allBytes, sameBytes}
 use Rattle.text.specs.Split.{bytesOf, piecesAt, front}
 use Rattle.text.specs.declared.Class.the-variants.{Newline, Space, Printable}
 use Rattle.text.specs.declared.Span.{Span}
-use Rattle.grammar.specs.Building.{emptyTable, start, withConstraint, finish}
+use Rattle.grammar.specs.Building.{emptyTable, start, withConstraint, finish, clocksIn}
 use Rattle.grammar.specs.Grammar.{Parsed, noForm, parsed, Formed, lineWords, awaitNumber, formIn}
 use Rattle.grammar.specs.Names.{withWords}
 use Rattle.grammar.specs.Tokens.{is, tokenOf}
@@ -128,10 +128,10 @@ readTable t = tellOf (refuseIf (ltb mostBytes (length t)) TableLength 0 (readLin
 
 -- ---- a theorem: the calls on records refuse nothing that the reader made
 
--- 59 lets a table's records pass with its clock count, and 60 their start words; there is room for both, and the slots behind the
+-- 59 lets a table's records pass with its clocks, and 60 their start words; there is room for both, and the slots behind the
 -- records are empty
 pub record Passes (table : Table) : Type 0 where
-  pub records : brokenRecord (table .names .count) (slots (table .count) (table .records)) ≡ Nowhere
+  pub records : brokenRecord (clocksIn table) (slots (table .count) (table .records)) ≡ Nowhere
   pub words : brokenWord (slots (table .count) (table .records)) (startWords (table .records)) ≡ Nowhere
   pub constraints : table .count ≤ 64
   pub clocks : table .names .count ≤ 32
