@@ -1,0 +1,3 @@
+pub mod FormLaws
+pub mod Said
+pub mod WordLaws
