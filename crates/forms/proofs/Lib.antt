@@ -1,3 +1,4 @@
 pub mod FormLaws
+pub mod FormRows
 pub mod Said
 pub mod WordLaws

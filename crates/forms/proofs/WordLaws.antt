@@ -2,8 +2,8 @@
 -- list of the form words and by its shape. Assumes nothing.
 use mathlib.Core.Path.{_≡_, refl, sym, ap, _∙_}
 use mathlib.Core.Bool.{Bool, true, false, not, cond, _&&_, _||_, true≢false, false≢true}
-use mathlib.Core.List.{List, [], _∷_, _++_}
-use Prim.Native.Nat.{ℕ, _≤_, _<_}
+use mathlib.Core.List.{List, [], _∷_}
+use Prim.Native.Nat.{ℕ, _≤_}
 use native.Mathlib.Omega.{arith}
 use borrow.Author.Tests.{leb-true, lt-leb, not-true}
 use lib.Dec.{leb}
@@ -11,7 +11,7 @@ use Rattle.constraint.specs.declared.Definition.the-variants.{Union, Inter, Lub
 use Rattle.constraint.specs.declared.Kind.{Kind}
 use Rattle.constraint.specs.declared.Kind.the-variants.{Empty, Relates, Defines}
 use Rattle.constraint.specs.declared.Relation.the-variants.{Coincides, Excludes, SubClock, StrictlyPrecedes, Precedes}
-use Rattle.constraint.proofs.Booleans.{and-l, and-r, or-l, or-r}
+use Rattle.constraint.proofs.Booleans.{and-l, and-r}
 use Rattle.text.specs.Ascii.{ascii}
 use Rattle.text.specs.Bytes.{letter, digit, inClass, allBytes, sameBytes}
 use Rattle.text.specs.declared.Class.the-variants.{NameByte}
