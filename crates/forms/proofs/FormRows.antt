@@ -43,12 +43,15 @@ formOf t ns (defines c (awaits n x)) = record {
   constraint = record { kind = Defines AwaitKind; defined = clockNamed t ns c; first = clockIn t ns x; second = 0; parameter = record { 0 = cond (leb n 1_000_000) n 0 }; line = record { 0 = 0 } };
 }
 
+pub names-open : (a : Words) (x : Operand) → IsOperand a x → Opens a
+names-open a x (one-name h) = by-name h
+
 module _ (t : List ℕ) where
   abbrev placedName : Names → Operand → Placed Names
   placedName ns x = record { left = ns; clock = clockIn t ns x }
 
   pub names-agree : Agrees t IsOperand placedName (operand t)
-  names-agree = record { sound = sound; complete = complete; opens = opens }
+  names-agree = record { sound = sound; complete = complete; opens = names-open }
     where
       sound : (ns : Names) (ws : List Span) → Each (OperandRead t IsOperand placedName ns ws) (operand t ns ws)
       sound ns ws =
@@ -70,9 +73,6 @@ module _ (t : List ℕ) where
                 operand-some t ws ns (first-told t Bool (is Name) true ws n us e (name-is n ∙ h))
                 ∙ ap (λ (u : Word). parsed (placedName ns (name u)) (rest ws)) (f .bytes);
           }
-
-      opens : (a : Words) (x : Operand) → IsOperand a x → Opens a
-      opens a x (one-name h) = by-name h
 
   module _ (ns : Names) where
     form-same : (f : Form Operand) → formWith t IsOperand placedName (clockNamed t ns) ns f ≡ formOf t ns f
