@@ -1,3 +1,4 @@
 pub mod Answers
+pub mod Claims
 pub mod Examples
 pub mod Reader
