@@ -1,48 +1,71 @@
 -- Which clocks a form names, and that it looks at no other. Assumes nothing.
 use mathlib.Core.Path.{_≡_, refl, sym, _∙_}
-use mathlib.Core.Bool.{Bool}
+use mathlib.Core.Bool.{Bool, true, false, false≢true}
 use mathlib.Core.List.{[], _∷_, map}
 use Prim.Native.Nat.{ℕ}
 use denote.Enum.Declared.{tagOf}
 use types.Run.{OneOf, miss}
-use Rattle.constraint.specs.Meaning.{operands, named, clocksOf, due, holdsWhen, counterOf, change, holds, nextWord}
+use Rattle.constraint.specs.Meaning.{operands, named, clocksOf, parameterFits, relationCounter, definitionCounter, due, holdsWhen, counterOf, change, holds, nextWord}
 use Rattle.constraint.specs.Ticks.{Ticks}
 use Rattle.constraint.specs.declared.Constraint.{Constraint}
 use Rattle.constraint.specs.declared.Definition.{Definition}
 use Rattle.constraint.specs.declared.Definition.the-variants.{Union, Inter, Lub, Glb, Await, StrictlySampled, Sampled, Upto}
 use Rattle.constraint.specs.declared.Kind.{Kind}
 use Rattle.constraint.specs.declared.Kind.the-variants.{Empty, Relates, Defines}
+use Rattle.constraint.specs.declared.Parameter.{Parameter}
+use Rattle.constraint.specs.declared.Relation.{Relation}
+use Rattle.constraint.specs.declared.Relation.the-variants.{Coincides, Excludes, SubClock, StrictlyPrecedes, Precedes}
 use Rattle.constraint.specs.declared.Word.{Word}
 use Rattle.constraint.proofs.Definition as declared
 
--- ---- how many operands a definition has: an await one, every other two
+-- ---- how many operands a definition has: an await one, and a number; every other two, and no number that could not fit
 
 pub data Arity : Definition → Type 1 where
-  two : {k : Definition} → ((A : Type 0) (a b : A) → operands k a b ≡ a ∷ b ∷ []) → Arity k
+  two : {k : Definition} → ((A : Type 0) (a b : A) → operands k a b ≡ a ∷ b ∷ []) → ((n : Parameter) → parameterFits (definitionCounter k) n ≡ true) → Arity k
   one : Arity Await
 
-pub arity : (k : Definition) → Arity k
-arity Union = two (λ A a b. refl)
-arity Inter = two (λ A a b. refl)
-arity Lub = two (λ A a b. refl)
-arity Glb = two (λ A a b. refl)
+abbrev pub arity : (k : Definition) → Arity k
+arity Union = two (λ A a b. refl) (λ n. refl)
+arity Inter = two (λ A a b. refl) (λ n. refl)
+arity Lub = two (λ A a b. refl) (λ n. refl)
+arity Glb = two (λ A a b. refl) (λ n. refl)
 arity Await = one
-arity StrictlySampled = two (λ A a b. refl)
-arity Sampled = two (λ A a b. refl)
-arity Upto = two (λ A a b. refl)
+arity StrictlySampled = two (λ A a b. refl) (λ n. refl)
+arity Sampled = two (λ A a b. refl) (λ n. refl)
+arity Upto = two (λ A a b. refl) (λ n. refl)
+
+-- a definition of two operands
+abbrev pub paired : {k : Definition} → Arity k → Bool
+paired (two f g) = true
+paired one = false
+
+pub paired-operands : {A : Type 0} {k : Definition} (x : Arity k) (a b : A) → paired x ≡ true → operands k a b ≡ a ∷ b ∷ []
+paired-operands (two f g) a b e = f _ a b
+paired-operands one a b e = absurd (false≢true e)
+
+pub paired-fits : {k : Definition} (x : Arity k) (n : Parameter) → paired x ≡ true → parameterFits (definitionCounter k) n ≡ true
+paired-fits (two f g) n e = g n
+paired-fits one n e = absurd (false≢true e)
+
+pub relation-fits : (k : Relation) (n : Parameter) → parameterFits (relationCounter k) n ≡ true
+relation-fits Coincides n = refl
+relation-fits Excludes n = refl
+relation-fits SubClock n = refl
+relation-fits StrictlyPrecedes n = refl
+relation-fits Precedes n = refl
 
 -- every definition but await; the numbers are the places of their variants
 pub two-operands : (k : Definition) (a b : ℕ) → OneOf (0 ∷ 1 ∷ 2 ∷ 3 ∷ 5 ∷ 6 ∷ 7 ∷ []) (tagOf declared.the-type k) → operands k a b ≡ a ∷ b ∷ []
 two-operands k a b h = go k (arity k) h
   where
     go : (k : Definition) → Arity k → OneOf (0 ∷ 1 ∷ 2 ∷ 3 ∷ 5 ∷ 6 ∷ 7 ∷ []) (tagOf declared.the-type k) → operands k a b ≡ a ∷ b ∷ []
-    go k (two f) h = f ℕ a b
+    go k (two f g) h = f ℕ a b
     go Await one h = absurd (miss (0 ∷ 1 ∷ 2 ∷ 3 ∷ 5 ∷ 6 ∷ 7 ∷ []) 4 tt h)
 
 -- ---- which places of a form are named does not depend on what stands there
 
 map-operands : {A B : Type 0} (f : A → B) {k : Definition} → Arity k → (a b : A) → map f (operands k a b) ≡ operands k (f a) (f b)
-map-operands f (two e) a b = rw (e _ a b, e _ (f a) (f b))
+map-operands f (two e g) a b = rw (e _ a b, e _ (f a) (f b))
 map-operands f one a b = refl
 
 pub map-named : {A B : Type 0} (f : A → B) (k : Kind) (a b c : A) → map f (named k a b c) ≡ named k (f a) (f b) (f c)
@@ -53,7 +76,7 @@ map-named f (Defines k) a b c = rw (map-operands f (arity k) a b)
 -- ---- a form looks only at the clocks that it names
 
 due-named : {k : Definition} → Arity k → (w : Word) (a b x y : Bool) → operands k a b ≡ operands k x y → due k w a b ≡ due k w x y
-due-named (two f) w a b x y e = let t : a ∷ b ∷ [] ≡ x ∷ y ∷ [] = sym (f Bool a b) ∙ e ∙ f Bool x y in cc
+due-named (two f g) w a b x y e = let t : a ∷ b ∷ [] ≡ x ∷ y ∷ [] = sym (f Bool a b) ∙ e ∙ f Bool x y in cc
 due-named one w a b x y e = cc
 
 pub holds-named : (k : Kind) (w : Word) (a b c x y z : Bool) → named k a b c ≡ named k x y z → holdsWhen k w a b c ≡ holdsWhen k w x y z
@@ -64,7 +87,7 @@ holds-named (Defines k) w a b c x y z e =
     cc (due-named (arity k) w a b x y t)
 
 change-operands : {k : Definition} → Arity k → (w : Word) (a b x y : Bool) → operands k a b ≡ operands k x y → change (counterOf (Defines k)) w a b ≡ change (counterOf (Defines k)) w x y
-change-operands (two f) w a b x y e = let t : a ∷ b ∷ [] ≡ x ∷ y ∷ [] = sym (f Bool a b) ∙ e ∙ f Bool x y in cc
+change-operands (two f g) w a b x y e = let t : a ∷ b ∷ [] ≡ x ∷ y ∷ [] = sym (f Bool a b) ∙ e ∙ f Bool x y in cc
 change-operands one w a b x y e = cc
 
 pub change-named : (k : Kind) (w : Word) (a b c x y z : Bool) → named k a b c ≡ named k x y z → change (counterOf k) w a b ≡ change (counterOf k) w x y

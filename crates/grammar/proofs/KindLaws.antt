@@ -7,6 +7,7 @@ use Rattle.constraint.specs.declared.Definition.the-variants.{Union, Inter, Lub
 use Rattle.constraint.specs.declared.Kind.{Kind}
 use Rattle.constraint.specs.declared.Kind.the-variants.{Empty, Relates, Defines}
 use Rattle.constraint.specs.declared.Relation.the-variants.{Coincides, Excludes, SubClock, StrictlyPrecedes, Precedes}
+use Rattle.constraint.proofs.Named.{arity, paired}
 use Rattle.text.specs.Split.{bytesOf, front, rest}
 use Rattle.text.specs.declared.Span.{Span}
 use Rattle.grammar.specs.Grammar.{token, strictKind, plain, Kinded, kindAt}
@@ -17,14 +18,7 @@ use Rattle.grammar.proofs.TokenLaws.{look-all, shape-all}
 unfoldable pub notAwait : Kind → Bool
 notAwait Empty = true
 notAwait (Relates k) = true
-notAwait (Defines Union) = true
-notAwait (Defines Inter) = true
-notAwait (Defines Lub) = true
-notAwait (Defines Glb) = true
-notAwait (Defines AwaitKind) = false
-notAwait (Defines StrictlySampled) = true
-notAwait (Defines Sampled) = true
-notAwait (Defines Upto) = true
+notAwait (Defines k) = paired (arity k)
 
 token-plain : (w : List ℕ) → notAwait (plain (tokenOf w)) ≡ true
 unfolding notAwait

@@ -15,6 +15,7 @@ use Rattle.constraint.specs.declared.Kind.the-variants.{Empty, Relates, Defines
 use Rattle.constraint.specs.declared.Parameter.{Parameter}
 use Rattle.constraint.specs.declared.Relation.the-variants.{Coincides, Excludes, SubClock, StrictlyPrecedes, Precedes}
 use Rattle.constraint.proofs.Booleans.{and-l, and-r, or-l, or-r}
+use Rattle.constraint.proofs.Named.{arity, paired-operands, paired-fits, relation-fits}
 use Rattle.text.specs.Digits.{number}
 use Rattle.text.specs.Split.{bytesOf, front, rest}
 use Rattle.text.specs.declared.Number.{Number}
@@ -65,31 +66,13 @@ pair-operands : (k : Kind) (a b : ℕ) → isKind k ≡ true → notAwait k ≡ 
 unfolding notAwait
 pair-operands Empty a b e n = absurd (false≢true e)
 pair-operands (Relates k) a b e n = refl
-pair-operands (Defines Union) a b e n = refl
-pair-operands (Defines Inter) a b e n = refl
-pair-operands (Defines Lub) a b e n = refl
-pair-operands (Defines Glb) a b e n = refl
-pair-operands (Defines AwaitKind) a b e n = absurd (false≢true n)
-pair-operands (Defines StrictlySampled) a b e n = refl
-pair-operands (Defines Sampled) a b e n = refl
-pair-operands (Defines Upto) a b e n = refl
+pair-operands (Defines k) a b e n = paired-operands (arity k) a b n
 
 pair-fits : (k : Kind) (n : Parameter) → notAwait k ≡ true → parameterFits (counterOf k) n ≡ true
 unfolding notAwait
 pair-fits Empty p n = refl
-pair-fits (Relates Coincides) p n = refl
-pair-fits (Relates Excludes) p n = refl
-pair-fits (Relates SubClock) p n = refl
-pair-fits (Relates StrictlyPrecedes) p n = refl
-pair-fits (Relates Precedes) p n = refl
-pair-fits (Defines Union) p n = refl
-pair-fits (Defines Inter) p n = refl
-pair-fits (Defines Lub) p n = refl
-pair-fits (Defines Glb) p n = refl
-pair-fits (Defines AwaitKind) p n = absurd (false≢true n)
-pair-fits (Defines StrictlySampled) p n = refl
-pair-fits (Defines Sampled) p n = refl
-pair-fits (Defines Upto) p n = refl
+pair-fits (Relates k) p n = relation-fits k p
+pair-fits (Defines k) p n = paired-fits (arity k) p n
 
 -- the number of an await is 0 or fits
 number-fits : (n : Number) → eqb (upToMillion n) 0 ≡ false → (leb 1 (upToMillion n) && leb (upToMillion n) 1_000_000) ≡ true
