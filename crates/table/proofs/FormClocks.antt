@@ -9,11 +9,9 @@ use native.Mathlib.Omega.{arith}
 use borrow.Author.Tests.{eqb-false, not-true, le-leb}
 use lib.Dec.{eqb, ltb, leb}
 use Rattle.constraint.specs.Meaning.{counterOf, definedBy, operandsOf, clocksOf, allBelow, among, distinct, parameterFits}
-use Rattle.constraint.specs.declared.Definition.the-variants.{Union, Inter, Lub, Glb, Await as AwaitKind, StrictlySampled, Sampled, Upto}
 use Rattle.constraint.specs.declared.Kind.{Kind}
 use Rattle.constraint.specs.declared.Kind.the-variants.{Empty, Relates, Defines}
 use Rattle.constraint.specs.declared.Parameter.{Parameter}
-use Rattle.constraint.specs.declared.Relation.the-variants.{Coincides, Excludes, SubClock, StrictlyPrecedes, Precedes}
 use Rattle.constraint.proofs.Booleans.{and-l, and-r, or-l, or-r}
 use Rattle.constraint.proofs.Named.{arity, paired-operands, paired-fits, relation-fits}
 use Rattle.text.specs.Digits.{number}
