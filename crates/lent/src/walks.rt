@@ -38,7 +38,12 @@ pub fn survey(
 }
 
 // The single step.
-pub fn step(records: &[Constraint], clocks: Clocks, configuration: Configuration, ticks: u32) -> Stepped
+pub fn step(
+    records: &[Constraint],
+    clocks: Clocks,
+    configuration: Configuration,
+    ticks: u32,
+) -> Stepped
     ensures { λ r. ⌜ stepTold r ≡ stepOf clocks (now (records .entry)) configuration ticks ⌝ }
 {
     conclude(survey(records, clocks, configuration, ticks))
@@ -60,7 +65,12 @@ pub fn same_place(
 }
 
 // The lent monitor, moved forward where it stands. After a refusal or a violation it holds what it held.
-pub fn advance(monitor: &mut Monitor, records: &[Constraint], clocks: Clocks, ticks: u32) -> StepAnswer
+pub fn advance(
+    monitor: &mut Monitor,
+    records: &[Constraint],
+    clocks: Clocks,
+    ticks: u32,
+) -> StepAnswer
     ensures { λ r. ⌜ movedTo r (now (monitor .exit)) ≡ stepOf clocks (now (records .entry)) (now (monitor .entry) .configuration) ticks ⌝ }
 {
     let stepped = step(records, clocks, monitor.configuration, ticks);
