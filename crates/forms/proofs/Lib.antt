@@ -1,1 +1,3 @@
+pub mod ClockNames
+pub mod FormNames
 pub mod SplitWords
