@@ -11,15 +11,34 @@ use Rattle.text.proofs.Bytes.{same-equal, equal-same, differ-same}
 use Rattle.forms.specs.Forms.{Word, Words, Line, wordsOf, oneOf}
 use Rattle.forms.specs.Lines.{namesIn, constraintsIn, withNames, withLines, constraints, standing}
 
-same-turned : (a b : List ℕ) → sameBytes a b ≡ sameBytes b a
+pub same-turned : (a b : List ℕ) → sameBytes a b ≡ sameBytes b a
 same-turned a b = go (sameBytes b a) refl
   where
     go : (x : Bool) → sameBytes b a ≡ x → sameBytes a b ≡ x
     go true e = ap (λ (u : Word). sameBytes u b) (sym (same-equal b a e)) ∙ equal-same b
     go false e = differ-same a b (λ q. true≢false (sym (equal-same a) ∙ ap (λ (u : Word). sameBytes u a) q ∙ e))
 
--- ---- the number of a name among others
+-- ---- a name among others
 
+or-true : (x : Bool) → (x || true) ≡ true
+or-true true = refl
+or-true false = refl
+
+pub has : (us vs : Words) (w : Word) → oneOf (us ++ w ∷ vs) w ≡ true
+unfolding oneOf
+has [] vs w = rw (equal-same w)
+has (u ∷ us) vs w = rw (has us vs w) (or-true (sameBytes w u))
+
+pub found : (us : Words) (w : Word) → oneOf us w ≡ true → (a : Words) × (b : Words) × (us ≡ a ++ w ∷ b)
+unfolding oneOf
+found [] w e = absurd (false≢true e)
+found (u ∷ us) w e = go (sameBytes w u) refl e (found us w)
+  where
+    go : (x : Bool) → sameBytes w u ≡ x → (x || oneOf us w) ≡ true → (oneOf us w ≡ true → (a : Words) × (b : Words) × (us ≡ a ++ w ∷ b)) → (a : Words) × (b : Words) × (u ∷ us ≡ a ++ w ∷ b)
+    go true q e ih = ([], us, ap (λ (v : Word). v ∷ us) (sym (same-equal w u q)))
+    go false q e ih = let h = ih e in (u ∷ h .0, h .1, ap (λ (vs : Words). u ∷ vs) (h .2))
+
+-- its number
 pub standing-below : (us : Words) (w : Word) → oneOf us w ≡ true → standing us w < length us
 unfolding oneOf standing
 standing-below [] w e = absurd (false≢true e)
@@ -74,21 +93,12 @@ keeps-one us w = go (oneOf us w)
     go true = keeps-same us
     go false = keeps-more us (w ∷ [])
 
-has-last : (us : Words) (w : Word) → oneOf (us ++ w ∷ []) w ≡ true
-unfolding oneOf
-has-last [] w = rw (equal-same w)
-has-last (u ∷ us) w = rw (has-last us w) (or-true (sameBytes w u))
-  where
-    or-true : (x : Bool) → (x || true) ≡ true
-    or-true true = refl
-    or-true false = refl
-
 has-one : (us : Words) (w : Word) → oneOf (with us w) w ≡ true
 has-one us w = go (oneOf us w) refl
   where
     go : (x : Bool) → oneOf us w ≡ x → oneOf (cond x us (us ++ w ∷ [])) w ≡ true
     go true e = e
-    go false e = has-last us w
+    go false e = has us [] w
 
 grows-one : (us : Words) (w : Word) → length us ≤ length (with us w)
 grows-one us w = go (oneOf us w)

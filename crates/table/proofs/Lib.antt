@@ -1,4 +1,6 @@
 pub mod FormClocks
+pub mod FormRows
+pub mod LineRows
 pub mod NamesKnown
 pub mod Passes
 pub mod ReaderLaws
