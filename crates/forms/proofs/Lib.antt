@@ -1,3 +1,5 @@
+pub mod BlankLines
+pub mod Broken
 pub mod ClockNames
 pub mod FormNames
 pub mod SplitWords
