@@ -1,5 +1,10 @@
 pub mod BlankLines
 pub mod Broken
 pub mod ClockNames
+pub mod FormLaws
 pub mod FormNames
+pub mod FormRows
+pub mod FormUnique
+pub mod Said
 pub mod SplitWords
+pub mod WordLaws

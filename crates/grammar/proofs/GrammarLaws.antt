@@ -3,7 +3,10 @@
 use mathlib.Core.Path.{_≡_, refl, sym, ap, _∙_}
 use mathlib.Core.Bool.{Bool, true, false, _&&_}
 use mathlib.Core.List.{List, [], _∷_}
-use Prim.Native.Nat.{ℕ}
+use Prim.Native.Nat.{ℕ, _-_}
+use native.Mathlib.Omega.{arith}
+use lib.ListN.{length}
+use Rattle.text.specs.Bytes.{sameBytes}
 use Rattle.text.specs.Split.{bytesOf, front, rest}
 use Rattle.text.specs.declared.Span.{Span}
 use Rattle.constraint.specs.declared.Definition.the-variants.{Await as AwaitKind}
@@ -11,14 +14,31 @@ use Rattle.constraint.specs.declared.Kind.{Kind}
 use Rattle.constraint.specs.declared.Kind.the-variants.{Defines}
 use Rattle.grammar.specs.Answers.{FirstWord, operandRead, formRead}
 use Rattle.grammar.specs.Grammar.{Parsed, noForm, parsed, andThen, onlyIf, Placed, Formed, Kinded, Operands, lineWords, token, clockAt, operand, kindAt, strictKind, plain, isKind, sides, second, pair, awaitNumber, awaitSide, expression, isSide, defining, atEnd, closed, lineForm}
-use Rattle.grammar.specs.Tokens.{is, tokenOf}
+use Rattle.grammar.specs.Tokens.{is, shapeOf, lookUp, tokenOf}
 use Rattle.grammar.specs.declared.FormRead.{FormRead}
 use Rattle.grammar.specs.declared.Names.{Names}
 use Rattle.grammar.specs.declared.OperandRead.{OperandRead}
 use Rattle.grammar.specs.declared.Token.{Token}
-use Rattle.grammar.specs.declared.Token.the-variants.{Name, Digits, ClockDef, Await, Strictly}
+use Rattle.grammar.specs.declared.Token.the-variants.{End, Name, Digits, ClockDef, Await, Strictly}
 use Rattle.grammar.specs.declared.WordRead.{WordRead}
 
+-- ---- what every reading has
+abbrev pub Each : {A : Type 0} → (A → List Span → Type 0) → Parsed A → Type 0
+Each P noForm = Unit {0}
+Each P (parsed a us) = P a us
+
+pub each-only : {A : Type 0} (P : A → List Span → Type 0) (x : Bool) (p : Parsed A) → (x ≡ true → Each P p) → Each P (onlyIf x p)
+unfolding onlyIf
+each-only P true p f = f refl
+each-only P false p f = tt
+
+pub each-then : {A B : Type 0} (P : A → List Span → Type 0) (Q : B → List Span → Type 0) (p : Parsed A) (f : A → List Span → Parsed B)
+    → Each P p → ((a : A) (us : List Span) → P a us → Each Q (f a us)) → Each Q (andThen p f)
+unfolding andThen
+each-then P Q noForm f e g = tt
+each-then P Q (parsed a us) f e g = g a us e
+
+-- ---- readings by a test, and one behind another
 only : {A : Type 0} (t : Bool) (p : Parsed A) → t ≡ true → onlyIf t p ≡ p
 unfolding onlyIf
 only true p e = refl
@@ -38,7 +58,11 @@ unfolding andThen
 then-some p f a ws e = rw e
 
 module _ (t : List ℕ) where
-  -- ---- the first word from an offset on, and the words after it
+  -- ---- no word; the first word from an offset on, and the words after it
+  pub end-token : token t [] ≡ End
+  unfolding front lookUp sameBytes shapeOf
+  end-token = let e : length t - length t ≡ 0 = omega arith in rw e
+
   module _ (at : ℕ) (w : WordRead) (f : FirstWord t at w) where
     pub word-told : w .token ≡ tokenOf (bytesOf t (w .span))
     word-told = sym (f .token) ∙ ap (λ (p : Span). tokenOf (bytesOf t p)) (sym (f .next .found))
@@ -167,7 +191,7 @@ module _ {S : Type 0} (d : Bool) (c : ℕ) (p : Parsed (Formed S)) where
       unfolding atEnd
       closed-side g = then-some p _ f [] e ∙ not-only _ _ g
 
-      closed-some : isSide d (f .constraint .kind) ≡ true → closed d c p ≡ parsed (record { left = f .left; constraint = defining c (f .constraint) }) []
+      pub closed-some : isSide d (f .constraint .kind) ≡ true → closed d c p ≡ parsed (record { left = f .left; constraint = defining c (f .constraint) }) []
       unfolding atEnd
       closed-some g = then-some p _ f [] e ∙ only _ _ g
 

@@ -1,3 +1,4 @@
 pub mod GrammarLaws
+pub mod KindLaws
 pub mod NameLaws
 pub mod TokenLaws

@@ -4,11 +4,10 @@ use mathlib.Core.Path.{_≡_, refl, sym, ap, _∙_}
 use mathlib.Core.Logic.{_⊎_, inl, inr}
 use mathlib.Core.Bool.{Bool, true, false, not, cond, _&&_, true≢false, false≢true}
 use mathlib.Core.List.{List, [], _∷_, _++_}
-use Prim.Native.Nat.{ℕ, _-_}
+use Prim.Native.Nat.{ℕ}
 use native.Mathlib.Omega.{arith}
 use borrow.Author.Tests.{eqb-false, not-true, le-leb}
 use lib.Dec.{eqb, ltb, leb}
-use lib.ListN.{length}
 use Rattle.constraint.specs.Meaning.{counterOf, definedBy, operandsOf, clocksOf, allBelow, among, distinct, parameterFits}
 use Rattle.constraint.specs.declared.Definition.the-variants.{Union, Inter, Lub, Glb, Await as AwaitKind, StrictlySampled, Sampled, Upto}
 use Rattle.constraint.specs.declared.Kind.{Kind}
@@ -16,19 +15,19 @@ use Rattle.constraint.specs.declared.Kind.the-variants.{Empty, Relates, Defines
 use Rattle.constraint.specs.declared.Parameter.{Parameter}
 use Rattle.constraint.specs.declared.Relation.the-variants.{Coincides, Excludes, SubClock, StrictlyPrecedes, Precedes}
 use Rattle.constraint.proofs.Booleans.{and-l, and-r, or-l, or-r}
-use Rattle.text.specs.Bytes.{letter, digit, inClass, allBytes, sameBytes}
 use Rattle.text.specs.Digits.{number}
 use Rattle.text.specs.Split.{bytesOf, front, rest}
-use Rattle.text.specs.declared.Class.the-variants.{NameByte}
 use Rattle.text.specs.declared.Number.{Number}
 use Rattle.text.specs.declared.Number.the-variants.{NotDigits, TooLarge, Value}
 use Rattle.text.specs.declared.Span.{Span}
-use Rattle.grammar.specs.Grammar.{Parsed, noForm, parsed, andThen, onlyIf, Placed, Formed, token, clockOf, operand, strictKind, plain, kindAt, isKind, second, pair, upToMillion, awaitNumber, awaitSide, Kinded, expression, isSide, atEnd, closed, lineForm, formIn, clockAt}
+use Rattle.grammar.specs.Grammar.{Placed, Formed, token, clockOf, operand, strictKind, plain, kindAt, isKind, second, pair, upToMillion, awaitNumber, awaitSide, Kinded, expression, isSide, atEnd, closed, lineForm, formIn, clockAt}
 use Rattle.grammar.specs.Names.{numberIn}
 use Rattle.table.specs.Reader.{anyWord, badNumber}
-use Rattle.grammar.specs.Tokens.{is, Spelled, shapeOf, lookUp, formWords, tokenOf}
+use Rattle.grammar.specs.Tokens.{is, tokenOf}
 use Rattle.grammar.specs.declared.Names.{Names}
-use Rattle.grammar.specs.declared.Token.the-variants.{End, Other, Name, Digits, ClockDef, Await, Strictly}
+use Rattle.grammar.specs.declared.Token.the-variants.{Name, Digits, ClockDef, Await, Strictly}
+use Rattle.grammar.proofs.GrammarLaws.{Each, each-only, each-then, end-token}
+use Rattle.grammar.proofs.KindLaws.{notAwait, kind-plain}
 use Rattle.table.proofs.NamesKnown.{nameClocks}
 
 -- ---- some of a list, in their order
@@ -61,81 +60,7 @@ within-distinct (k ∷ ks) (l ∷ ls) (inl w) e =
     rw (w .0, within-among l ks ls (w .1) q, within-distinct ks ls (w .1) (and-r (not (among l ls)) (distinct ls) e))
 within-distinct (k ∷ ks) (l ∷ ls) (inr w) e = within-distinct (k ∷ ks) ls w (and-r (not (among l ls)) (distinct ls) e)
 
--- ---- what every reading has
-abbrev pub Each : {A : Type 0} → (A → List Span → Type 0) → Parsed A → Type 0
-Each P noForm = Unit {0}
-Each P (parsed a us) = P a us
-
-each-only : {A : Type 0} (P : A → List Span → Type 0) (x : Bool) (p : Parsed A) → (x ≡ true → Each P p) → Each P (onlyIf x p)
-unfolding onlyIf
-each-only P true p f = f refl
-each-only P false p f = tt
-
-each-then : {A B : Type 0} (P : A → List Span → Type 0) (Q : B → List Span → Type 0) (p : Parsed A) (f : A → List Span → Parsed B)
-    → Each P p → ((a : A) (us : List Span) → P a us → Each Q (f a us)) → Each Q (andThen p f)
-unfolding andThen
-each-then P Q noForm f e g = tt
-each-then P Q (parsed a us) f e g = g a us e
-
--- ---- no word but `await` says that a constraint is an await
-notAwait : Kind → Bool
-notAwait Empty = true
-notAwait (Relates k) = true
-notAwait (Defines Union) = true
-notAwait (Defines Inter) = true
-notAwait (Defines Lub) = true
-notAwait (Defines Glb) = true
-notAwait (Defines AwaitKind) = false
-notAwait (Defines StrictlySampled) = true
-notAwait (Defines Sampled) = true
-notAwait (Defines Upto) = true
-
-plainWords : List Spelled → Bool
-plainWords [] = true
-plainWords (s ∷ ss) = notAwait (plain (s .token)) && plainWords ss
-
-shape-plain : (w : List ℕ) → notAwait (plain (shapeOf w)) ≡ true
-unfolding shapeOf notAwait
-shape-plain [] = refl
-shape-plain (b ∷ bs) = go (allBytes digit (b ∷ bs)) (letter b && allBytes (inClass NameByte) (b ∷ bs))
-  where
-    go : (x y : Bool) → notAwait (plain (cond x Digits (cond y Name Other))) ≡ true
-    go true y = refl
-    go false true = refl
-    go false false = refl
-
-words-plain : (w : List ℕ) (ss : List Spelled) → plainWords ss ≡ true → notAwait (plain (lookUp w ss)) ≡ true
-unfolding lookUp plainWords
-words-plain w [] e = shape-plain w
-words-plain w (s ∷ ss) e =
-    go (sameBytes w (s .bytes)) (and-l (notAwait (plain (s .token))) (plainWords ss) e) (words-plain w ss (and-r (notAwait (plain (s .token))) (plainWords ss) e))
-  where
-    go : (x : Bool) → notAwait (plain (s .token)) ≡ true → notAwait (plain (lookUp w ss)) ≡ true → notAwait (plain (cond x (s .token) (lookUp w ss))) ≡ true
-    go true p q = p
-    go false p q = q
-
-token-plain : (w : List ℕ) → notAwait (plain (tokenOf w)) ≡ true
-unfolding plainWords notAwait
-token-plain w = words-plain w formWords refl
-
-strict-plain : (k : Kind) → notAwait (strictKind k) ≡ true
-unfolding notAwait
-strict-plain Empty = refl
-strict-plain (Relates Coincides) = refl
-strict-plain (Relates Excludes) = refl
-strict-plain (Relates SubClock) = refl
-strict-plain (Relates StrictlyPrecedes) = refl
-strict-plain (Relates Precedes) = refl
-strict-plain (Defines Union) = refl
-strict-plain (Defines Inter) = refl
-strict-plain (Defines Lub) = refl
-strict-plain (Defines Glb) = refl
-strict-plain (Defines AwaitKind) = refl
-strict-plain (Defines StrictlySampled) = refl
-strict-plain (Defines Sampled) = refl
-strict-plain (Defines Upto) = refl
-
--- so it has two operands, and no parameter that could not fit
+-- ---- a kind that is no await has two operands, and no parameter that could not fit
 pair-operands : (k : Kind) (a b : ℕ) → isKind k ≡ true → notAwait k ≡ true → operandsOf k a b ≡ a ∷ b ∷ []
 unfolding notAwait
 pair-operands Empty a b e n = absurd (false≢true e)
@@ -180,10 +105,6 @@ number-fits (Value n) e = go (leb n 1_000_000) refl e
 
 -- ---- the first word
 module _ (t : List ℕ) where
-  end-token : token t [] ≡ End
-  unfolding front lookUp sameBytes shapeOf
-  end-token = let e : length t - length t ≡ 0 = omega arith in rw e
-
   any-rest : (p : Span → List Span → Bool) (ws : List Span) → anyWord p ws ≡ false → anyWord p (rest ws) ≡ false
   unfolding anyWord rest
   any-rest p [] e = refl
@@ -191,26 +112,17 @@ module _ (t : List ℕ) where
 
   await-passes : (ws : List Span) → is Await (token t ws) ≡ true → anyWord (badNumber t) ws ≡ false → eqb (awaitNumber (bytesOf t (front t (rest ws)))) 0 ≡ false
   unfolding anyWord front rest
-  await-passes [] a e = absurd (false≢true (ap (is Await) (sym end-token) ∙ a))
+  await-passes [] a e = absurd (false≢true (ap (is Await) (sym (end-token t)) ∙ a))
   await-passes (w ∷ ws) a e = go (is Await (tokenOf (bytesOf t w))) a (or-l (badNumber t w ws) (anyWord (badNumber t) ws) e)
     where
       go : (x : Bool) → x ≡ true → (x && eqb (awaitNumber (bytesOf t (front t ws))) 0) ≡ false → eqb (awaitNumber (bytesOf t (front t ws))) 0 ≡ false
       go true a e = e
       go false a e = absurd (false≢true a)
 
-  -- a kind is no await
-  kind-plain : (us : List Span) → notAwait (kindAt t us .kind) ≡ true
-  unfolding kindAt
-  kind-plain us = go (is Strictly (token t us))
-    where
-      go : (x : Bool) → notAwait (cond {A = Kinded} x (record { kind = strictKind (plain (token t (rest us))); after = rest (rest us) }) (record { kind = plain (token t us); after = rest us }) .kind) ≡ true
-      go true = strict-plain (plain (token t (rest us)))
-      go false = token-plain (bytesOf t (front t us))
-
   module _ (ns : Names) where
     name-first : (ws : List Span) → is Name (token t ws) ≡ true → nameClocks t ns ws ≡ clockOf (numberIn t ns (bytesOf t (front t ws))) ∷ nameClocks t ns (rest ws)
     unfolding front rest
-    name-first [] e = absurd (false≢true (ap (is Name) (sym end-token) ∙ e))
+    name-first [] e = absurd (false≢true (ap (is Name) (sym (end-token t)) ∙ e))
     name-first (w ∷ ws) e = rw e
 
     skip-first : (ks : List ℕ) (ws : List Span) → Within ks (nameClocks t ns (rest ws)) → Within ks (nameClocks t ns ws)
@@ -222,7 +134,7 @@ module _ (t : List ℕ) where
         go true = skip ks (clockOf (numberIn t ns (bytesOf t w))) (nameClocks t ns ws) h
         go false = h
 
-    -- and names nothing
+    -- a kind names nothing
     skip-kind : (ks : List ℕ) (us : List Span) → Within ks (nameClocks t ns (kindAt t us .after)) → Within ks (nameClocks t ns us)
     unfolding kindAt
     skip-kind ks us h = go (is Strictly (token t us)) h

@@ -1,5 +1,4 @@
 pub mod FormClocks
-pub mod FormRows
 pub mod LineRows
 pub mod NamesKnown
 pub mod Passes

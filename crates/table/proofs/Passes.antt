@@ -31,7 +31,8 @@ use Rattle.table.specs.Reader.{anyWord, longName, badNumber, twice, addL
 use Rattle.grammar.specs.declared.Builder.{Builder}
 use Rattle.grammar.specs.declared.Names.{Names}
 use Rattle.grammar.specs.declared.Table.{Table}
-use Rattle.table.proofs.FormClocks.{within-below, within-distinct, Each, Line, line-made}
+use Rattle.grammar.proofs.GrammarLaws.{Each}
+use Rattle.table.proofs.FormClocks.{within-below, within-distinct, Line, line-made}
 use Rattle.table.proofs.NamesKnown.{AllKnown, Grown, all-words, nameClocks, names-below, names-distinct}
 
 -- ---- what every builder has
