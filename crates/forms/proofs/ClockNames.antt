@@ -64,7 +64,7 @@ standing-one (u ∷ us) v w d e q = go (sameBytes v u) (sameBytes w u) refl refl
 abbrev pub Keeps : (us vs : Words) → Type 0
 Keeps us vs = (w : Word) → oneOf us w ≡ true → (oneOf vs w ≡ true) × (standing vs w ≡ standing us w)
 
-keeps-more : (us vs : Words) → Keeps us (us ++ vs)
+pub keeps-more : (us vs : Words) → Keeps us (us ++ vs)
 unfolding oneOf standing
 keeps-more [] vs w e = absurd (false≢true e)
 keeps-more (u ∷ us) vs w e = rw (same-turned u w) (go (sameBytes w u) e (keeps-more us vs w))
@@ -77,30 +77,30 @@ keeps-more (u ∷ us) vs w e = rw (same-turned u w) (go (sameBytes w u) e (keeps
 keeps-same : (us : Words) → Keeps us us
 keeps-same us w e = (e, refl)
 
-keeps-then : (us vs ws : Words) → Keeps us vs → Keeps vs ws → Keeps us ws
+pub keeps-then : (us vs ws : Words) → Keeps us vs → Keeps vs ws → Keeps us ws
 keeps-then us vs ws f g w e = let h = f w e in let k = g w (h .0) in (k .0, k .1 ∙ h .1)
 
 -- ---- the names so far with those of some words
 
 -- with one
-abbrev with : Words → Word → Words
-with us w = cond (oneOf us w) us (us ++ w ∷ [])
+abbrev pub withOne : Words → Word → Words
+withOne us w = cond (oneOf us w) us (us ++ w ∷ [])
 
-keeps-one : (us : Words) (w : Word) → Keeps us (with us w)
+keeps-one : (us : Words) (w : Word) → Keeps us (withOne us w)
 keeps-one us w = go (oneOf us w)
   where
     go : (x : Bool) → Keeps us (cond x us (us ++ w ∷ []))
     go true = keeps-same us
     go false = keeps-more us (w ∷ [])
 
-has-one : (us : Words) (w : Word) → oneOf (with us w) w ≡ true
+has-one : (us : Words) (w : Word) → oneOf (withOne us w) w ≡ true
 has-one us w = go (oneOf us w) refl
   where
     go : (x : Bool) → oneOf us w ≡ x → oneOf (cond x us (us ++ w ∷ [])) w ≡ true
     go true e = e
     go false e = has us [] w
 
-grows-one : (us : Words) (w : Word) → length us ≤ length (with us w)
+pub grows-one : (us : Words) (w : Word) → length us ≤ length (withOne us w)
 grows-one us w = go (oneOf us w)
   where
     go : (x : Bool) → length us ≤ length (cond x us (us ++ w ∷ []))
@@ -110,12 +110,12 @@ grows-one us w = go (oneOf us w)
 pub names-keep : (us ws : Words) → Keeps us (withNames us ws)
 unfolding withNames
 names-keep us [] = keeps-same us
-names-keep us (w ∷ ws) = keeps-then us (with us w) (withNames (with us w) ws) (keeps-one us w) (names-keep (with us w) ws)
+names-keep us (w ∷ ws) = keeps-then us (withOne us w) (withNames (withOne us w) ws) (keeps-one us w) (names-keep (withOne us w) ws)
 
 pub names-grow : (us ws : Words) → length us ≤ length (withNames us ws)
 unfolding withNames
 names-grow us [] = omega arith
-names-grow us (w ∷ ws) = omega (arith, grows-one us w, names-grow (with us w) ws)
+names-grow us (w ∷ ws) = omega (arith, grows-one us w, names-grow (withOne us w) ws)
 
 -- each of them is there
 abbrev pub AllOf : (us ws : Words) → Type 0
@@ -125,7 +125,7 @@ AllOf us (w ∷ ws) = (oneOf us w ≡ true) × AllOf us ws
 pub names-have : (us ws : Words) → AllOf (withNames us ws) ws
 unfolding withNames
 names-have us [] = tt
-names-have us (w ∷ ws) = (names-keep (with us w) ws w (has-one us w) .0, names-have (with us w) ws)
+names-have us (w ∷ ws) = (names-keep (withOne us w) ws w (has-one us w) .0, names-have (withOne us w) ws)
 
 -- ---- of lines, the last of which is l
 pub lines-keep : (us : Words) (ls : List Line) → Keeps us (withLines us ls)
