@@ -11,6 +11,7 @@ use Rattle.constraint.proofs.Booleans.{and-l, and-r}
 use Rattle.text.specs.Bytes.{allBytes}
 use Rattle.forms.specs.Forms.{Word, Words, Line, grow, parts, nonempty, wordsOf, Form, Operand, IsOperand, one-name, IsForm, coincides, excludes, sub-clock, strictly-precedes, precedes, clock-def}
 use Rattle.forms.specs.Lines.{namesIn, Some, here, later, Filled, Breaks, byte-outside, no-form, long-name, await-number, name-twice, defined-above, many-clocks, many-constraints, BreaksNothing}
+use Rattle.forms.proofs.SomeLaws.{some-none}
 
 -- ---- the words of a line of spaces, and of another
 abbrev space : ℕ → Bool
@@ -48,10 +49,6 @@ other-words (b ∷ bs) e = go (space b) (paren b) (parts space paren bs) (some-p
     go false false (p ∷ ps) f e ih q = let z : _≡_ {A = ℕ} 0 1 = cc in omega arith
 
 -- ---- what such a line could break
-no-some : {A : Type 0} {P : A → Type 0} (xs : List A) → xs ≡ [] → Some P xs → ⊥
-no-some xs e (here h) = let z : _≡_ {A = ℕ} 0 1 = cc in omega arith
-no-some xs e (later s) = let z : _≡_ {A = ℕ} 0 1 = cc in omega arith
-
 no-cons : {A : Type 0} (a : List A) (x : A) (b : List A) → a ++ x ∷ b ≡ [] → ⊥
 no-cons [] x b e = let z : _≡_ {A = ℕ} 0 1 = cc in omega arith
 no-cons (y ∷ a) x b e = let z : _≡_ {A = ℕ} 0 1 = cc in omega arith
@@ -78,7 +75,7 @@ blank-breaks-nothing above l e m b = go (blank-words l e) b
     go : {m : Limit} → wordsOf l ≡ [] → Breaks above l m → ⊥
     go q (byte-outside s) = space-inside l e s
     go q (no-form f n) = f q
-    go q (long-name s) = no-some (namesIn (wordsOf l)) (names q) s
+    go q (long-name s) = some-none _ (namesIn (wordsOf l)) (names q) s
     go q (await-number h s) = form-filled h q
     go q (name-twice a b d n w) = no-cons a n (b ++ n ∷ d) (sym w ∙ names q)
     go q (defined-above d s) = form-filled (d .1) q

@@ -10,6 +10,7 @@ use Rattle.text.specs.Bytes.{sameBytes}
 use Rattle.text.proofs.Bytes.{same-equal, equal-same, differ-same}
 use Rattle.forms.specs.Forms.{Word, Words, Line, wordsOf, oneOf}
 use Rattle.forms.specs.Lines.{namesIn, constraintsIn, withNames, withLines, constraints, standing}
+use Rattle.forms.proofs.SomeLaws.{or-true}
 
 pub same-turned : (a b : List ℕ) → sameBytes a b ≡ sameBytes b a
 same-turned a b = go (sameBytes b a) refl
@@ -19,10 +20,6 @@ same-turned a b = go (sameBytes b a) refl
     go false e = differ-same a b (λ q. true≢false (sym (equal-same a) ∙ ap (λ (u : Word). sameBytes u a) q ∙ e))
 
 -- ---- a name among others
-
-or-true : (x : Bool) → (x || true) ≡ true
-or-true true = refl
-or-true false = refl
 
 pub has : (us vs : Words) (w : Word) → oneOf (us ++ w ∷ vs) w ≡ true
 unfolding oneOf

@@ -6,5 +6,6 @@ pub mod FormNames
 pub mod FormRows
 pub mod FormUnique
 pub mod Said
+pub mod SomeLaws
 pub mod SplitWords
 pub mod WordLaws

@@ -1,3 +1,4 @@
+pub mod ClocksDefined
 pub mod FormClocks
 pub mod LineRows
 pub mod NamesKnown

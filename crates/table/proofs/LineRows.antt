@@ -16,8 +16,9 @@ use Rattle.text.specs.declared.Class.the-variants.{Printable}
 use Rattle.text.specs.declared.Span.{Span}
 use Rattle.text.proofs.Bytes.{same-equal, equal-same, differ-same}
 use Rattle.forms.specs.Forms.{Word, Words, oneOf, isName, Right, Form, defines, Operand, IsOperand, one-name, IsForm, coincides, excludes, sub-clock, strictly-precedes, precedes, clock-def, IsRight, union, inter, lub, glb, await, strictly-sampled, sampled, upto}
-use Rattle.forms.specs.Lines.{namesIn, awaitNumbers, Some, here, later}
+use Rattle.forms.specs.Lines.{namesIn, awaitNumbers, Some}
 use Rattle.forms.proofs.FormLaws.{await-value}
+use Rattle.forms.proofs.SomeLaws.{or-true, anyOf, some-row}
 use Rattle.forms.proofs.Said.{said}
 use Rattle.forms.proofs.WordLaws.{digits-is, name-is}
 use Rattle.grammar.specs.Grammar.{awaitNumber}
@@ -27,31 +28,6 @@ use Rattle.grammar.specs.declared.Token.the-variants.{Name, Digits, Await}
 use Rattle.table.specs.Reader.{anyWord, sameAs, longName, badNumber, twice}
 use Rattle.forms.proofs.ClockNames.{same-turned, has, found}
 use Rattle.table.proofs.ReaderLaws.{name-no-await}
-
--- ---- some element passes a test
-abbrev pub anyOf : {A : Type 0} → (A → Bool) → List A → Bool
-anyOf p [] = false
-anyOf p (x ∷ xs) = p x || anyOf p xs
-
-or-true : (y : Bool) → (y || true) ≡ true
-or-true true = refl
-or-true false = refl
-
-module _ {A : Type 0} (p : A → Bool) (P : A → Type 0) where
-  any-some : ((x : A) → p x ≡ true → P x) → (xs : List A) → anyOf p xs ≡ true → Some P xs
-  any-some f [] e = absurd (false≢true e)
-  any-some f (x ∷ xs) e = go (p x) refl e (any-some f xs)
-    where
-      go : (y : Bool) → p x ≡ y → (y || anyOf p xs) ≡ true → (anyOf p xs ≡ true → Some P xs) → Some P (x ∷ xs)
-      go true q e ih = here (f x q)
-      go false q e ih = later (ih e)
-
-  some-any : ((x : A) → P x → p x ≡ true) → (xs : List A) → Some P xs → anyOf p xs ≡ true
-  some-any f _ (here {x = x} {xs = xs} h) = rw (f x h)
-  some-any f _ (later {x = x} {xs = xs} s) = rw (some-any f xs s) (or-true (p x))
-
-  pub some-row : ((x : A) → (p x ≡ true) ↔ P x) → (xs : List A) → (anyOf p xs ≡ true) ↔ Some P xs
-  some-row f xs = (any-some (λ x. f x .0) xs, some-any (λ x. f x .1) xs)
 
 -- ---- 11
 bytes-any : (p : ℕ → Bool) (l : List ℕ) → not (allBytes p l) ≡ anyOf (λ b. not (p b)) l
