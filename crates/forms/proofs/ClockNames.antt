@@ -71,7 +71,7 @@ keeps-more (u ∷ us) vs w e = rw (same-turned u w) (go (sameBytes w u) e (keeps
     go true e ih = (refl, refl)
     go false e ih = (ih e .0, ap suc (ih e .1))
 
-keeps-same : (us : Words) → Keeps us us
+pub keeps-same : (us : Words) → Keeps us us
 keeps-same us w e = (e, refl)
 
 pub keeps-then : (us vs ws : Words) → Keeps us vs → Keeps vs ws → Keeps us ws

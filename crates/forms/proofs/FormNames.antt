@@ -11,13 +11,13 @@ use Rattle.constraint.proofs.Booleans.{and-l, and-r}
 use Rattle.text.specs.Ascii.{ascii}
 use Rattle.text.specs.Bytes.{letter, digit, allBytes, sameBytes}
 use Rattle.forms.specs.Forms.{Word, Words, Line, wordsOf, oneOf, formWords, nameShape, isName, isDigits, Right, both, awaits, Form, relates, defines, Operand, name, IsOperand, one-name, IsForm, coincides, excludes, sub-clock, strictly-precedes, precedes, clock-def, IsRight, union, inter, lub, glb, await, strictly-sampled, sampled, upto, HasForm}
-use Rattle.forms.specs.Lines.{namesIn, withNames, withLines, Some, here, later, DefinesClock, clockOf, recordOf, standing}
-use Rattle.forms.proofs.ClockNames.{Keeps, AllOf, names-have, lines-keep}
+use Rattle.forms.specs.Lines.{namesIn, withNames, withLines, clockNames, Some, here, later, DefinesClock, clockOf, recordOf, standing}
+use Rattle.forms.proofs.ClockNames.{Keeps, AllOf, names-have, lines-keep, names-more}
 
-abbrev called : Operand → Word
+abbrev pub called : Operand → Word
 called (name w) = w
 
-abbrev sideNames : Right Operand → Words
+abbrev pub sideNames : Right Operand → Words
 sideNames (both k x y) = called x ∷ called y ∷ []
 sideNames (awaits n x) = called x ∷ []
 
@@ -81,8 +81,11 @@ form-names (precedes p q) = pair-names (ascii "precedes" ∷ []) refl p q
 form-names (clock-def {c = c} {ws = ws} e p) = name-first c (ascii "clockDef" ∷ ws) e ∙ ap (λ (us : Words). c ∷ us) (side-names p)
 
 -- ---- they are all among the names with those of the line
-pub form-named : (us : Words) (l : Line) (f : Form Operand) → HasForm l f → AllOf (withNames us (namesIn (wordsOf l))) (formNames f)
+form-named : (us : Words) (l : Line) (f : Form Operand) → HasForm l f → AllOf (withNames us (namesIn (wordsOf l))) (formNames f)
 form-named us l f h = subst (AllOf (withNames us (namesIn (wordsOf l)))) (form-names h) (names-have us (namesIn (wordsOf l)))
+
+pub line-named : (above : List Line) (l : Line) (f : Form Operand) → HasForm l f → AllOf (clockNames (above ++ l ∷ [])) (formNames f)
+line-named above l f h = rw (names-more [] above l) (form-named (clockNames above) l f h)
 
 -- a clock that some line defines is among the names of the lines
 pub defined-named : (us : Words) (ls : List Line) (c : Word) → Some (DefinesClock c) ls → oneOf (withLines us ls) c ≡ true

@@ -1,6 +1,9 @@
+pub mod BrokenRows
 pub mod ClocksDefined
 pub mod FormClocks
+pub mod LineAdded
 pub mod LineRows
+pub mod LineVerdict
 pub mod NamesKnown
 pub mod NamesListed
 pub mod Passes

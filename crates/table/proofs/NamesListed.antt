@@ -1,6 +1,6 @@
 -- The names that a table being built lists, with those of a line, are the names of the lines in the order of first appearance, until a
 -- 33rd is met: then it is known that there are more than 32. Assumes nothing.
-use mathlib.Core.Path.{_≡_, refl, sym, ap, _∙_}
+use mathlib.Core.Path.{_≡_, refl, sym, ap, subst, _∙_}
 use mathlib.Core.Bool.{Bool, true, false, cond, _||_, true≢false}
 use mathlib.Core.List.{List, [], _∷_, _++_, map-append}
 use Prim.Native.Nat.{ℕ, suc, _+_, _≤_, _<_}
@@ -22,10 +22,10 @@ use Rattle.grammar.specs.declared.Names.{Names}
 use Rattle.grammar.specs.declared.Token.the-variants.{Name}
 use Rattle.forms.specs.Forms.{Word, Words, oneOf, isName}
 use Rattle.forms.specs.Lines.{namesIn, withNames, standing}
-use Rattle.forms.proofs.ClockNames.{same-turned, Keeps, withOne, keeps-then, keeps-more, grows-one}
+use Rattle.forms.proofs.ClockNames.{same-turned, Keeps, withOne, keeps-same, keeps-then, keeps-more, grows-one}
 use Rattle.forms.proofs.FormRows.{clockNamed}
 use Rattle.forms.proofs.Said.{said}
-use Rattle.forms.proofs.SplitWords.{Inside}
+use Rattle.forms.proofs.SplitWords.{Inside, inside-more}
 use Rattle.forms.proofs.WordLaws.{name-is}
 
 -- the spans of the names
@@ -166,3 +166,25 @@ module _ (t : List ℕ) where
           → Named e ms (withNames us (cond x (bytesOf t p ∷ namesIn (said t ps)) (namesIn (said t ps)))) (withWords t (cond x (unlessFound (numberIn t ns (bytesOf t p)) ns p) ns) ps)
       go true ih = ih (withOne us (bytesOf t p)) (unlessFound (numberIn t ns (bytesOf t p)) ns p) (name-word e ms us ns m p (i .0))
       go false ih = ih us ns m
+
+-- ---- the same names in another text, and further on
+pub named-in : (s t : List ℕ) (d e : ℕ) → d ≤ e → (ms us : Words) (ns : Names) → said s (listed ns) ≡ said t (listed ns) → Named s d ms us ns → Named t e ms us ns
+named-in s t d e h ms us ns q m = record {
+  spans = m .spans;
+  room = m .room;
+  inside = inside-more d e h (listed ns) (m .inside);
+  kept = subst (Keeps ms) q (m .kept);
+  over = m .over;
+  words = λ o. sym q ∙ m .words o;
+}
+
+-- at the end of a line
+pub named-again : (t : List ℕ) (e : ℕ) (ms us : Words) (ns : Names) → Named t e ms us ns → ns .over ≡ false → Named t e us us ns
+named-again t e ms us ns m o = record {
+  spans = m .spans;
+  room = m .room;
+  inside = m .inside;
+  kept = rw (m .words o) (keeps-same us);
+  over = m .over;
+  words = m .words;
+}
