@@ -37,6 +37,18 @@ pub record Builds (t : List ℕ) (at : ℕ) (above : List Line) (rs : List Const
   pub most : length rs ≤ 64
   pub marks : Marks above (bits (b .defined))
 
+-- further on in the text
+pub builds-on : (t : List ℕ) (d e : ℕ) → d ≤ e → (above : List Line) (rs : List Constraint) (b : Builder) → Builds t d above rs b → Builds t e above rs b
+builds-on t d e h above rs b g = record {
+  names = named-in t t d e h (clockNames above) (clockNames above) (b .names) refl (g .names);
+  few = g .few;
+  count = g .count;
+  records = g .records;
+  listed = g .listed;
+  most = g .most;
+  marks = g .marks;
+}
+
 -- the records with that of a line, which has the number n
 pub data Added (us : Words) (n : ℕ) (l : Line) (rs : List Constraint) : List Constraint → Type 0 where
   none-added : wordsOf l ≡ [] → Added us n l rs rs
