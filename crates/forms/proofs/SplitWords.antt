@@ -27,7 +27,7 @@ abbrev pub Inside : ℕ → List Span → Type 0
 Inside e [] = Unit {0}
 Inside e (p ∷ ps) = (p .end ≤ e) × Inside e ps
 
-ordered-to : (a e : ℕ) (ps : List Span) → Ordered a e ps → a ≤ e
+pub ordered-to : (a e : ℕ) (ps : List Span) → Ordered a e ps → a ≤ e
 ordered-to a e [] o = o
 ordered-to a e (p ∷ ps) o = let h : p .end ≤ e = ordered-to (p .end) e ps (o .2) in omega arith
 

@@ -8,3 +8,4 @@ pub mod NamesKnown
 pub mod NamesListed
 pub mod Passes
 pub mod ReaderLaws
+pub mod TableVerdict
