@@ -1,5 +1,11 @@
+pub mod BlankLines
+pub mod Broken
+pub mod ClockNames
 pub mod FormLaws
+pub mod FormNames
 pub mod FormRows
 pub mod FormUnique
 pub mod Said
+pub mod SomeLaws
+pub mod SplitWords
 pub mod WordLaws

@@ -1,5 +1,12 @@
+pub mod BrokenRows
+pub mod ClocksDefined
 pub mod Determined
 pub mod FormClocks
+pub mod LineAdded
+pub mod LineRows
+pub mod LineVerdict
 pub mod NamesKnown
+pub mod NamesListed
 pub mod Passes
 pub mod ReaderLaws
+pub mod TableVerdict
