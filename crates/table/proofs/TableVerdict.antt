@@ -129,8 +129,8 @@ module _ (t : List ℕ) where
       of-lines h (stopped m p) a = rw (a .2) (stops-refuses t h m (a .0) (a .1))
 
       go : (x : Bool) → ltb mostBytes (length t) ≡ x → Answer (refuseIf x TableLength 0 lines)
-      go true q = too-long (ltb-true mostBytes (length t) q)
-      go false q = of-lines (ltb-false mostBytes (length t) q) lines read-lines
+      go true q = let h : mostBytes < length t = ltb-true mostBytes (length t) q in too-long (omega arith)
+      go false q = let h : length t ≤ mostBytes = ltb-false mostBytes (length t) q in of-lines (omega arith) lines read-lines
 
   -- ---- and nothing else is
   module _ (n p : ℕ) where
