@@ -90,7 +90,7 @@ pub record Took {A : Type 0} (t : List ℕ) (p : Parsed A) (v : A) (us : Words) 
 
 module _ (t : List ℕ) {S O : Type 0} (IsOp : Words → O → Type 0) (placed : S → O → Placed S) where
   -- the words in front are an operand, and what was read is that operand, placed
-  pub record OperandRead (s : S) (ws : List Span) (p : Placed S) (us : List Span) : Type 0 where
+  pub record OperandTaken (s : S) (ws : List Span) (p : Placed S) (us : List Span) : Type 0 where
     pub words : Words
     pub it : O
     pub split : said t ws ≡ words ++ said t us
@@ -98,7 +98,7 @@ module _ (t : List ℕ) {S O : Type 0} (IsOp : Words → O → Type 0) (placed :
     pub made : p ≡ placed s it
 
   pub record Agrees (operands : Operands S) : Type 0 where
-    pub sound : (s : S) (ws : List Span) → Each (OperandRead s ws) (operands s ws)
+    pub sound : (s : S) (ws : List Span) → Each (OperandTaken s ws) (operands s ws)
     pub complete : (s : S) (ws : List Span) (a : Words) (x : O) (us : Words) → IsOp a x → said t ws ≡ a ++ us → Took t (operands s ws) (placed s x) us
     pub opens : (a : Words) (x : O) → IsOp a x → Opens a
 
@@ -122,11 +122,11 @@ module _ (t : List ℕ) {S O : Type 0} (IsOp : Words → O → Type 0) (placed :
   formWith named s (defines c r) = ofClock (named c) (rightOf s r)
 
   -- ---- what was read: two operands and a kind that is no await, or an await
-  pub data SideRead (s : S) (ws us : List Span) : Formed S → Type 0 where
-    of-pair : {a c : Words} {x y : O} {k : Kind} → notAwait k ≡ true → IsOp a x → IsOp c y → said t ws ≡ a ++ (kindWords k ++ (c ++ said t us)) → SideRead s ws us (pairOf s k x y)
-    of-await : {n : Word} {a : Words} {x : O} → isDigits n ≡ true → IsOp a x → said t ws ≡ ascii "await" ∷ n ∷ (a ++ said t us) → SideRead s ws us (rightOf s (awaits (value 0 n) x))
+  pub data SideTaken (s : S) (ws us : List Span) : Formed S → Type 0 where
+    of-pair : {a c : Words} {x y : O} {k : Kind} → notAwait k ≡ true → IsOp a x → IsOp c y → said t ws ≡ a ++ (kindWords k ++ (c ++ said t us)) → SideTaken s ws us (pairOf s k x y)
+    of-await : {n : Word} {a : Words} {x : O} → isDigits n ≡ true → IsOp a x → said t ws ≡ ascii "await" ∷ n ∷ (a ++ said t us) → SideTaken s ws us (rightOf s (awaits (value 0 n) x))
 
-  pub record LineRead (named : Word → ℕ) (s : S) (ws : List Span) (g : Formed S) (us : List Span) : Type 0 where
+  pub record LineTaken (named : Word → ℕ) (s : S) (ws : List Span) (g : Formed S) (us : List Span) : Type 0 where
     pub none : us ≡ []
     pub form : Form O
     pub fits : IsForm IsOp (said t ws) form
@@ -134,20 +134,20 @@ module _ (t : List ℕ) {S O : Type 0} (IsOp : Words → O → Type 0) (placed :
 
   module _ (operands : Operands S) (A : Agrees operands) where
     -- ---- sound
-    pair-sound : (s : S) (ws : List Span) → Each (λ f us. SideRead s ws us f) (pair t operands s ws)
+    pair-sound : (s : S) (ws : List Span) → Each (λ f us. SideTaken s ws us f) (pair t operands s ws)
     unfolding pair second
     pair-sound s ws =
-        each-then (OperandRead s ws) (λ f us. SideRead s ws us f) (operands s ws) _ (A .sound s ws) (λ a us h.
-        each-only (λ f us. SideRead s ws us f) (isKind (kindAt t us .kind)) _ (λ e.
-        each-then (OperandRead (a .left) (kindAt t us .after)) (λ f us. SideRead s ws us f) (operands (a .left) (kindAt t us .after)) _ (A .sound (a .left) (kindAt t us .after)) (λ c vs g.
+        each-then (OperandTaken s ws) (λ f us. SideTaken s ws us f) (operands s ws) _ (A .sound s ws) (λ a us h.
+        each-only (λ f us. SideTaken s ws us f) (isKind (kindAt t us .kind)) _ (λ e.
+        each-then (OperandTaken (a .left) (kindAt t us .after)) (λ f us. SideTaken s ws us f) (operands (a .left) (kindAt t us .after)) _ (A .sound (a .left) (kindAt t us .after)) (λ c vs g.
         rw (g .made, h .made) (of-pair (kind-plain t us) (h .fits) (g .fits)
         (h .split ∙ ap (λ (z : Words). h .words ++ z) (kind-words t us e ∙ ap (λ (z : Words). kindWords (kindAt t us .kind) ++ z) (g .split)))))))
 
-    await-sound : (s : S) (ws : List Span) → is Await (token t ws) ≡ true → Each (λ f us. SideRead s ws us f) (awaitSide t operands s (rest ws))
+    await-sound : (s : S) (ws : List Span) → is Await (token t ws) ≡ true → Each (λ f us. SideTaken s ws us f) (awaitSide t operands s (rest ws))
     unfolding awaitSide
     await-sound s ws w =
-        each-only (λ f us. SideRead s ws us f) (is Digits (token t (rest ws))) _ (λ d.
-        each-then (OperandRead s (rest (rest ws))) (λ f us. SideRead s ws us f) (operands s (rest (rest ws))) _ (A .sound s (rest (rest ws))) (λ a us h.
+        each-only (λ f us. SideTaken s ws us f) (is Digits (token t (rest ws))) _ (λ d.
+        each-then (OperandTaken s (rest (rest ws))) (λ f us. SideTaken s ws us f) (operands s (rest (rest ws))) _ (A .sound s (rest (rest ws))) (λ a us h.
         let n : Word = bytesOf t (front t (rest ws)) in
         let ds : isDigits n ≡ true = sym (digits-is n) ∙ d in
         rw (await-value n ds, h .made) (of-await ds (h .fits)
@@ -155,61 +155,61 @@ module _ (t : List ℕ) {S O : Type 0} (IsOp : Words → O → Type 0) (placed :
         ∙ (λ i. await-word (bytesOf t (front t ws)) w i ∷ some-first t (is Digits) refl (rest ws) d i)
         ∙ ap (λ (z : Words). ascii "await" ∷ n ∷ z) (h .split)))))
 
-    pub expression-sound : (s : S) (ws : List Span) → Each (λ f us. SideRead s ws us f) (expression t operands s ws)
+    pub expression-sound : (s : S) (ws : List Span) → Each (λ f us. SideTaken s ws us f) (expression t operands s ws)
     unfolding expression
     expression-sound s ws = go (is Await (token t ws)) refl
       where
-        go : (x : Bool) → is Await (token t ws) ≡ x → Each (λ f us. SideRead s ws us f) (cond x (awaitSide t operands s (rest ws)) (pair t operands s ws))
+        go : (x : Bool) → is Await (token t ws) ≡ x → Each (λ f us. SideTaken s ws us f) (cond x (awaitSide t operands s (rest ws)) (pair t operands s ws))
         go true w = await-sound s ws w
         go false w = pair-sound s ws
 
     module _ (named : Word → ℕ) (s : S) (ws : List Span) where
-      relation-made : (a c : Words) (x y : O) (k : Kind) → IsOp a x → IsOp c y → isSide false k ≡ true → said t ws ≡ a ++ (kindWords k ++ (c ++ [])) → LineRead named s ws (ofClock 0 (pairOf s k x y)) []
+      relation-made : (a c : Words) (x y : O) (k : Kind) → IsOp a x → IsOp c y → isSide false k ≡ true → said t ws ≡ a ++ (kindWords k ++ (c ++ [])) → LineTaken named s ws (ofClock 0 (pairOf s k x y)) []
       relation-made a c x y Empty p q i e = absurd (false≢true i)
       relation-made a c x y (Defines k) p q i e = absurd (false≢true i)
       relation-made a c x y (Relates k) p q i e =
           let w : said t ws ≡ a ++ (kindWords (Relates k) ++ c) = e ∙ ap (λ (z : Words). a ++ (kindWords (Relates k) ++ z)) (append-nil c) in
           record { none = refl; form = relates k x y; fits = rw w (relation-row IsOp p q k); made = refl }
 
-      relation-end : (f : Formed S) (us : List Span) → SideRead s ws us f → Each (LineRead named s ws) (atEnd false 0 f us)
+      relation-end : (f : Formed S) (us : List Span) → SideTaken s ws us f → Each (LineTaken named s ws) (atEnd false 0 f us)
       unfolding atEnd onlyIf
       relation-end f (u ∷ us) h = tt
-      relation-end f [] (of-pair {a = a} {c = c} {x = x} {y = y} {k = k} n p q e) = each-only (LineRead named s ws) (isSide false k) _ (λ i. relation-made a c x y k p q i e)
+      relation-end f [] (of-pair {a = a} {c = c} {x = x} {y = y} {k = k} n p q e) = each-only (LineTaken named s ws) (isSide false k) _ (λ i. relation-made a c x y k p q i e)
       relation-end f [] (of-await d p e) = tt
 
       module _ (c : Word) (vs : List Span) (n : isName c ≡ true) (e : said t ws ≡ c ∷ ascii "clockDef" ∷ said t vs) where
-        defined-by : (rs : Words) (r : Right O) → IsRight IsOp rs r → said t vs ≡ rs → LineRead named s ws (ofClock (named c) (rightOf s r)) []
+        defined-by : (rs : Words) (r : Right O) → IsRight IsOp rs r → said t vs ≡ rs → LineTaken named s ws (ofClock (named c) (rightOf s r)) []
         defined-by rs r p q =
             let w : said t ws ≡ c ∷ ascii "clockDef" ∷ rs = e ∙ ap (λ (z : Words). c ∷ ascii "clockDef" ∷ z) q in
             record { none = refl; form = defines c r; fits = rw w (clock-def n p); made = refl }
 
         definition-made : (a d : Words) (x y : O) (k : Kind) → notAwait k ≡ true → IsOp a x → IsOp d y → isSide true k ≡ true → said t vs ≡ a ++ (kindWords k ++ (d ++ []))
-            → LineRead named s ws (ofClock (named c) (pairOf s k x y)) []
+            → LineTaken named s ws (ofClock (named c) (pairOf s k x y)) []
         definition-made a d x y Empty m p q i f = absurd (false≢true i)
         definition-made a d x y (Relates k) m p q i f = absurd (false≢true i)
         definition-made a d x y (Defines k) m p q i f =
             defined-by (a ++ (kindWords (Defines k) ++ d)) (both k x y) (right-row IsOp p q k m) (f ∙ ap (λ (z : Words). a ++ (kindWords (Defines k) ++ z)) (append-nil d))
 
-        definition-end : (f : Formed S) (us : List Span) → SideRead s vs us f → Each (LineRead named s ws) (atEnd true (named c) f us)
+        definition-end : (f : Formed S) (us : List Span) → SideTaken s vs us f → Each (LineTaken named s ws) (atEnd true (named c) f us)
         unfolding atEnd onlyIf
         definition-end f (u ∷ us) h = tt
-        definition-end f [] (of-pair {a = a} {c = d} {x = x} {y = y} {k = k} m p q w) = each-only (LineRead named s ws) (isSide true k) _ (λ i. definition-made a d x y k m p q i w)
+        definition-end f [] (of-pair {a = a} {c = d} {x = x} {y = y} {k = k} m p q w) = each-only (LineTaken named s ws) (isSide true k) _ (λ i. definition-made a d x y k m p q i w)
         definition-end f [] (of-await {n = ds} {a = a} {x = x} d p w) =
             defined-by (ascii "await" ∷ ds ∷ a) (awaits (value 0 ds) x) (await d p) (w ∙ ap (λ (z : Words). ascii "await" ∷ ds ∷ z) (append-nil a))
 
       -- whatever the reader of lines reads is a form, and all of the line
-      line-sound : Each (LineRead named s ws) (lineForm t (λ w. named (bytesOf t w)) operands s ws)
+      line-sound : Each (LineTaken named s ws) (lineForm t (λ w. named (bytesOf t w)) operands s ws)
       unfolding lineForm
       line-sound = go (is Name (token t ws)) (is ClockDef (token t (rest ws))) refl refl
         where
-          relation : Each (LineRead named s ws) (closed false 0 (expression t operands s ws))
-          relation = each-then (λ f us. SideRead s ws us f) (LineRead named s ws) (expression t operands s ws) (atEnd false 0) (expression-sound s ws) relation-end
+          relation : Each (LineTaken named s ws) (closed false 0 (expression t operands s ws))
+          relation = each-then (λ f us. SideTaken s ws us f) (LineTaken named s ws) (expression t operands s ws) (atEnd false 0) (expression-sound s ws) relation-end
 
-          definition : (c : Word) (vs : List Span) → isName c ≡ true → said t ws ≡ c ∷ ascii "clockDef" ∷ said t vs → Each (LineRead named s ws) (closed true (named c) (expression t operands s vs))
-          definition c vs n e = each-then (λ f us. SideRead s vs us f) (LineRead named s ws) (expression t operands s vs) (atEnd true (named c)) (expression-sound s vs) (definition-end c vs n e)
+          definition : (c : Word) (vs : List Span) → isName c ≡ true → said t ws ≡ c ∷ ascii "clockDef" ∷ said t vs → Each (LineTaken named s ws) (closed true (named c) (expression t operands s vs))
+          definition c vs n e = each-then (λ f us. SideTaken s vs us f) (LineTaken named s ws) (expression t operands s vs) (atEnd true (named c)) (expression-sound s vs) (definition-end c vs n e)
 
           go : (x y : Bool) → is Name (token t ws) ≡ x → is ClockDef (token t (rest ws)) ≡ y
-              → Each (LineRead named s ws) (cond (x && y) (closed true (named (bytesOf t (front t ws))) (expression t operands s (rest (rest ws)))) (closed false 0 (expression t operands s ws)))
+              → Each (LineTaken named s ws) (cond (x && y) (closed true (named (bytesOf t (front t ws))) (expression t operands s (rest (rest ws)))) (closed false 0 (expression t operands s ws)))
           go true true p q =
               let c : Word = bytesOf t (front t ws) in
               let d : bytesOf t (front t (rest ws)) ≡ ascii "clockDef" = clock-def-word (bytesOf t (front t (rest ws))) q in
@@ -325,9 +325,9 @@ module _ (t : List ℕ) {S O : Type 0} (IsOp : Words → O → Type 0) (placed :
       line-complete us f (clock-def {c = c} {ws = rs} {r = r} n p) e = definition-complete c rs r n p e
 
       -- ---- the theorem of forms
-      pub reads-forms : (g : Formed S) (us : List Span) → (line ≡ parsed g us) ↔ LineRead named s ws g us
+      pub reads-forms : (g : Formed S) (us : List Span) → (line ≡ parsed g us) ↔ LineTaken named s ws g us
       reads-forms g us = (
-        (λ e. subst (Each (LineRead named s ws)) e (line-sound named s ws)),
+        (λ e. subst (Each (LineTaken named s ws)) e (line-sound named s ws)),
         (λ h. line-complete (said t ws) (h .form) (h .fits) refl ∙ rw (h .none, h .made)),
       )
 
@@ -337,6 +337,6 @@ module _ (t : List ℕ) {S O : Type 0} (IsOp : Words → O → Type 0) (placed :
         (λ n. go line (line-sound named s ws) n),
       )
         where
-          go : (p : Parsed (Formed S)) → Each (LineRead named s ws) p → ((f : Form O) → IsForm IsOp (said t ws) f → ⊥) → p ≡ noForm
+          go : (p : Parsed (Formed S)) → Each (LineTaken named s ws) p → ((f : Form O) → IsForm IsOp (said t ws) f → ⊥) → p ≡ noForm
           go noForm h n = refl
           go (parsed g us) h n = absurd (n (h .form) (h .fits))

@@ -17,7 +17,7 @@ use Rattle.grammar.specs.declared.Names.{Names}
 use Rattle.grammar.specs.declared.Token.the-variants.{Name}
 use Rattle.grammar.proofs.GrammarLaws.{Each, each-only, operand-some}
 use Rattle.forms.specs.Forms.{Word, Words, both, awaits, Form, relates, defines, IsForm, Operand, name, IsOperand, one-name}
-use Rattle.forms.proofs.FormLaws.{Opens, by-name, Took, OperandRead, Agrees, formWith, LineRead, reads-forms, no-form-fits}
+use Rattle.forms.proofs.FormLaws.{Opens, by-name, Took, OperandTaken, Agrees, formWith, LineTaken, reads-forms, no-form-fits}
 use Rattle.forms.proofs.Said.{said, First, first-is, first-told, some-first}
 use Rattle.forms.proofs.WordLaws.{name-is}
 
@@ -47,15 +47,15 @@ pub names-open : (a : Words) (x : Operand) → IsOperand a x → Opens a
 names-open a x (one-name h) = by-name h
 
 module _ (t : List ℕ) where
-  abbrev placedName : Names → Operand → Placed Names
+  abbrev pub placedName : Names → Operand → Placed Names
   placedName ns x = record { left = ns; clock = clockIn t ns x }
 
   pub names-agree : Agrees t IsOperand placedName (operand t)
   names-agree = record { sound = sound; complete = complete; opens = names-open }
     where
-      sound : (ns : Names) (ws : List Span) → Each (OperandRead t IsOperand placedName ns ws) (operand t ns ws)
+      sound : (ns : Names) (ws : List Span) → Each (OperandTaken t IsOperand placedName ns ws) (operand t ns ws)
       sound ns ws =
-          unfold operand in each-only (OperandRead t IsOperand placedName ns ws) (is Name (token t ws)) _ (λ n. record {
+          unfold operand in each-only (OperandTaken t IsOperand placedName ns ws) (is Name (token t ws)) _ (λ n. record {
             words = bytesOf t (front t ws) ∷ [];
             it = name (bytesOf t (front t ws));
             split = some-first t (is Name) refl ws n;
@@ -83,7 +83,7 @@ module _ (t : List ℕ) where
     module _ (ws : List Span) where
       pub form-sound : (g : Formed Names) (us : List Span) → formIn t ns ws ≡ parsed g us → (f : Form Operand) × IsForm IsOperand (said t ws) f × (g ≡ formOf t ns f) × (us ≡ [])
       form-sound g us e =
-          let h : LineRead t IsOperand placedName (clockNamed t ns) ns ws g us = reads-forms t IsOperand placedName (operand t) names-agree (clockNamed t ns) ns ws g us .0 e in
+          let h : LineTaken t IsOperand placedName (clockNamed t ns) ns ws g us = reads-forms t IsOperand placedName (operand t) names-agree (clockNamed t ns) ns ws g us .0 e in
           (h .form, h .fits, h .made ∙ form-same (h .form), h .none)
 
       pub form-complete : (f : Form Operand) → IsForm IsOperand (said t ws) f → formIn t ns ws ≡ parsed (formOf t ns f) []
