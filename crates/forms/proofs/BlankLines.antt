@@ -1,6 +1,6 @@
 -- A line has no words exactly when it is of spaces alone, and breaks nothing then. Assumes nothing.
-use mathlib.Core.Path.{_≡_, refl, sym, ap, subst, _∙_}
-use mathlib.Core.Bool.{Bool, true, false, cond, _&&_, _||_, true≢false, false≢true}
+use mathlib.Core.Path.{_≡_, refl, sym, ap, _∙_}
+use mathlib.Core.Bool.{Bool, true, false, cond, _&&_, _||_, true≢false}
 use mathlib.Core.List.{List, [], _∷_, _++_}
 use Prim.Native.Nat.{ℕ}
 use native.Mathlib.Omega.{arith}
@@ -9,7 +9,7 @@ use lib.Dec.{eqb, leb}
 use Rattle.limit.specs.declared.Limit.{Limit}
 use Rattle.constraint.proofs.Booleans.{and-l, and-r}
 use Rattle.text.specs.Bytes.{allBytes}
-use Rattle.forms.specs.Forms.{Word, Words, Line, grow, parts, nonempty, wordsOf, Form, Operand, IsOperand, one-name, IsForm, coincides, excludes, sub-clock, strictly-precedes, precedes, clock-def}
+use Rattle.forms.specs.Forms.{Words, Line, grow, parts, nonempty, wordsOf, Form, Operand, IsOperand, IsForm, coincides, excludes, sub-clock, strictly-precedes, precedes, clock-def}
 use Rattle.forms.specs.Lines.{namesIn, Some, here, later, Filled, Breaks, byte-outside, no-form, long-name, await-number, name-twice, defined-above, many-clocks, many-constraints, BreaksNothing}
 use Rattle.forms.proofs.SomeLaws.{some-none}
 

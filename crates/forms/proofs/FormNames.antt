@@ -1,7 +1,7 @@
 -- The names of a line that has a form are those of the form, in their order; so a clock that a line defines has a number from that line on.
 -- Assumes nothing.
 use mathlib.Core.Path.{_≡_, refl, ap, subst, _∙_}
-use mathlib.Core.Bool.{Bool, true, false, not, cond, _&&_, _||_}
+use mathlib.Core.Bool.{Bool, true, false, not, cond, _&&_}
 use mathlib.Core.List.{List, [], _∷_, _++_}
 use Prim.Native.Nat.{ℕ, _≤_}
 use native.Mathlib.Omega.{arith}
@@ -11,7 +11,7 @@ use Rattle.constraint.proofs.Booleans.{and-l, and-r}
 use Rattle.text.specs.Ascii.{ascii}
 use Rattle.text.specs.Bytes.{letter, digit, allBytes, sameBytes}
 use Rattle.forms.specs.Forms.{Word, Words, Line, wordsOf, oneOf, formWords, nameShape, isName, isDigits, Right, both, awaits, Form, relates, defines, Operand, name, IsOperand, one-name, IsForm, coincides, excludes, sub-clock, strictly-precedes, precedes, clock-def, IsRight, union, inter, lub, glb, await, strictly-sampled, sampled, upto, HasForm}
-use Rattle.forms.specs.Lines.{namesIn, withNames, withLines, clockNames, Some, here, later, DefinesClock, clockOf, recordOf, standing}
+use Rattle.forms.specs.Lines.{namesIn, withNames, withLines, clockNames, Some, here, later, DefinesClock, clockOf, recordOf}
 use Rattle.forms.proofs.ClockNames.{Keeps, AllOf, names-have, lines-keep, names-more}
 
 abbrev pub called : Operand → Word

@@ -10,6 +10,7 @@ use Rattle.constraint.proofs.Demand3.{demand-3}
 use Rattle.constraint.proofs.PlaceRefusals.{same-place-refused}
 use Rattle.table.specs.Reader as table
 use Rattle.table.proofs.Passes.{every-table-passes}
+use Rattle.table.proofs.TableVerdict.{refused-exactly}
 use Rattle.recording.specs.Body.{Ending, ended, refusedAt}
 use Rattle.recording.specs.declared.Step.{Step}
 use Rattle.judging.proofs.AnswerLaws.{every-step-answers}
@@ -56,7 +57,7 @@ demand-2 t r e =
 -- ---- demand 1
 
 when-refused : (t r : List ℕ) {n p : ℕ} → RunRefuses t r n p → runOf t r .said ≡ refused n p
-when-refused t r {n} {p} (by-table e) = rw (run-refused t r n p e)
+when-refused t r {n} {p} (by-table e) = rw (run-refused t r n p (refused-exactly t n p .1 e))
 when-refused t r (by-reading e q h) = rw (run-split t r e (record { accepted = readingBy t r .steps; left = []; said = endingSaid (readingBy t r .ending); place = sym (append-nil _); held = h; ends = at-end })) (ap endingSaid q)
 when-refused t r (by-million before later s c e q h hold f) = rw (run-split t r e (record { accepted = before; left = s ∷ later; said = _; place = q; held = h; ends = past hold f }))
 
@@ -82,7 +83,7 @@ module _ (t r : List ℕ) where
     where
       go : (x : table.Said) → table.readTable t .said ≡ x → Refusing t r (runOf t r .said)
       go table.read e = let j = demand-2 t r e in end-refuses e (j .steps) (j .held) (j .ends)
-      go (table.refused n p) e = rw (run-refused t r n p e) (by-table e)
+      go (table.refused n p) e = rw (run-refused t r n p e) (by-table (refused-exactly t n p .0 e))
 
 pub demand-1 : Demand1
 demand-1 = record {

@@ -7,6 +7,7 @@ use Rattle.limit.specs.Limit.{numberOf}
 use Rattle.limit.specs.declared.Limit.{Limit}
 use Rattle.limit.specs.declared.Limit.the-variants.{Million}
 use Rattle.constraint.specs.declared.Constraint.{Constraint}
+use Rattle.forms.specs.Lines.{TableRefuses}
 use Rattle.table.specs.Reader as table
 use Rattle.recording.specs.Body.{refusedAt}
 use Rattle.recording.specs.declared.Step.{Step}
@@ -15,7 +16,7 @@ use Rattle.run.specs.Run.{tableOf, readingBy}
 
 -- a run is refused: the table is; or every step that was read is accepted, and reading is refused; or a word leaves its million, 51
 pub data RunRefuses (t r : List ℕ) : (number place : ℕ) → Type 0 where
-  by-table : {n p : ℕ} → table.readTable t .said ≡ table.refused n p → RunRefuses t r n p
+  by-table : {n p : ℕ} → TableRefuses t n p → RunRefuses t r n p
   by-reading : {l : Limit} {p : ℕ}
       → table.readTable t .said ≡ table.read
       → readingBy t r .ending ≡ refusedAt l p

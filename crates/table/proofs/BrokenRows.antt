@@ -2,14 +2,14 @@
 -- Assumes nothing.
 use mathlib.Core.Path.{_≡_, refl, sym, ap, subst, _∙_}
 use mathlib.Core.Logic.{_↔_}
-use mathlib.Core.Bool.{Bool, true, false, not, cond, _||_, or-false, false≢true}
+use mathlib.Core.Bool.{Bool, true, false, not, cond, or-false, false≢true}
 use mathlib.Core.List.{List, [], _∷_, _++_}
-use Prim.Native.Nat.{ℕ, suc, _+_, _≤_, _<_}
+use Prim.Native.Nat.{ℕ, _+_, _≤_, _<_}
 use native.Mathlib.Omega.{arith}
 use borrow.Author.Tests.{leb-true, le-leb, ltb-true, lt-ltb}
 use lib.Dec.{leb, ltb}
 use lib.ListN.{length}
-use Rattle.limit.specs.declared.Limit.the-variants.{LineByte, LineForm, NameLength, AwaitNumber, ClockTwice, DefinedTwice, TableClocks, TableConstraints}
+use Rattle.limit.specs.declared.Limit.the-variants.{LineByte, NameLength, AwaitNumber, ClockTwice, DefinedTwice, TableClocks, TableConstraints}
 use Rattle.constraint.specs.Meaning.{definedOf}
 use Rattle.constraint.specs.Ticks.{Ticks, any}
 use Rattle.constraint.specs.declared.Relation.{Relation}
@@ -18,7 +18,7 @@ use Rattle.text.specs.declared.Class.the-variants.{Printable}
 use Rattle.text.specs.declared.Span.{Span}
 use Rattle.grammar.specs.declared.Names.{Names}
 use Rattle.forms.specs.Forms.{Word, Words, Line, wordsOf, oneOf, both, awaits, Form, relates, defines, Operand, IsForm, IsOperand, HasForm}
-use Rattle.forms.specs.Lines.{namesIn, constraintsIn, awaitNumbers, clockNames, clocks, constraints, Some, Filled, DefinesClock, Breaks, byte-outside, no-form, long-name, await-number, name-twice, defined-above, many-clocks, many-constraints, standing}
+use Rattle.forms.specs.Lines.{namesIn, constraintsIn, awaitNumbers, clockNames, clocks, constraints, Some, Filled, DefinesClock, Breaks, byte-outside, long-name, await-number, name-twice, defined-above, many-clocks, many-constraints, standing}
 use Rattle.forms.proofs.ClockNames.{Keeps, constraints-more}
 use Rattle.forms.proofs.FormRows.{clockNamed, formOf}
 use Rattle.forms.proofs.FormUnique.{one-form-of-names}
@@ -26,7 +26,7 @@ use Rattle.forms.proofs.Said.{said}
 use Rattle.table.specs.Reader.{anyWord, longName, badNumber, twice}
 use Rattle.table.proofs.ClocksDefined.{Marks, marked-row}
 use Rattle.table.proofs.LineRows.{byte-row, long-row, number-row, Again, twice-row}
-use Rattle.table.proofs.NamesListed.{listed, clock-is, Named}
+use Rattle.table.proofs.NamesListed.{listed, clock-is}
 
 -- ---- each check is passed exactly where its row is not broken
 module _ (above : List Line) (l : Line) where

@@ -10,7 +10,7 @@ use lib.Dec.{eqb}
 use lib.ListN.{length}
 use Rattle.constraint.specs.Ticks.{Ticks, none, adding}
 use Rattle.forms.specs.Forms.{Word, Words, Line, wordsOf, oneOf}
-use Rattle.forms.specs.Lines.{namesIn, withNames, clockNames, Some, here, later, DefinesClock, standing}
+use Rattle.forms.specs.Lines.{namesIn, clockNames, Some, DefinesClock, standing}
 use Rattle.forms.proofs.ClockNames.{Keeps, names-keep, names-more, standing-below, standing-one}
 use Rattle.forms.proofs.FormNames.{defined-named}
 use Rattle.forms.proofs.SomeLaws.{or-true, some-none, some-more, some-last, some-cases}

@@ -1,13 +1,13 @@
 -- A table being built has, after some lines that break nothing, their names, their constraints as records, and the clocks that they define; so
 -- it has with one line more, that is blank or has a form. Assumes nothing.
-use mathlib.Core.Path.{_≡_, refl, sym, ap, subst, _∙_}
-use mathlib.Core.Bool.{Bool, true, false, cond, true≢false}
+use mathlib.Core.Path.{_≡_, refl, sym, ap, _∙_}
+use mathlib.Core.Bool.{Bool, true, false, cond}
 use mathlib.Core.List.{List, [], _∷_, _++_}
-use Prim.Native.Nat.{ℕ, suc, _+_, _≤_, _<_}
+use Prim.Native.Nat.{ℕ, _+_, _≤_, _<_}
 use native.Mathlib.Omega.{arith}
 use borrow.Author.Tests.{leb-false, ltb-false}
-use lib.Dec.{leb, ltb}
-use lib.ListN.{length, set, length-append}
+use lib.Dec.{leb}
+use lib.ListN.{length, length-append}
 use Rattle.constraint.specs.Lists.{slots}
 use Rattle.constraint.specs.Meaning.{definedOf}
 use Rattle.constraint.specs.Ticks.{bits, withTick, withTicks}
@@ -18,7 +18,7 @@ use Rattle.grammar.specs.Building.{onItsLine, withConstraint}
 use Rattle.grammar.specs.declared.Builder.{Builder}
 use Rattle.grammar.specs.declared.Names.{Names}
 use Rattle.forms.specs.Forms.{Word, Words, Line, wordsOf, oneOf, both, awaits, Form, relates, defines, Operand, name, HasForm}
-use Rattle.forms.specs.Lines.{namesIn, constraintsIn, withNames, awaitNumbers, clockNames, clocks, constraints, Some, here, Filled, DefinesClock, standing, clockOf, recordOf}
+use Rattle.forms.specs.Lines.{namesIn, constraintsIn, withNames, awaitNumbers, clockNames, constraints, Some, here, DefinesClock, standing, clockOf, recordOf}
 use Rattle.forms.proofs.BlankLines.{form-filled}
 use Rattle.forms.proofs.ClockNames.{AllOf, names-more, constraints-more, standing-below}
 use Rattle.forms.proofs.FormNames.{called, formNames, line-named}

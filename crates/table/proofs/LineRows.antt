@@ -14,7 +14,7 @@ use Rattle.text.specs.Bytes.{inClass, allBytes, sameBytes}
 use Rattle.text.specs.Split.{bytesOf, front}
 use Rattle.text.specs.declared.Class.the-variants.{Printable}
 use Rattle.text.specs.declared.Span.{Span}
-use Rattle.text.proofs.Bytes.{same-equal, equal-same, differ-same}
+use Rattle.text.proofs.Bytes.{differ-same}
 use Rattle.forms.specs.Forms.{Word, Words, oneOf, isName, Right, Form, defines, Operand, IsOperand, one-name, IsForm, coincides, excludes, sub-clock, strictly-precedes, precedes, clock-def, IsRight, union, inter, lub, glb, await, strictly-sampled, sampled, upto}
 use Rattle.forms.specs.Lines.{namesIn, awaitNumbers, Some}
 use Rattle.forms.proofs.FormLaws.{await-value}
@@ -24,7 +24,7 @@ use Rattle.forms.proofs.WordLaws.{digits-is, name-is}
 use Rattle.grammar.specs.Grammar.{awaitNumber}
 use Rattle.grammar.specs.Tokens.{tag, is, tokenOf, lookUp}
 use Rattle.grammar.specs.declared.Token.{Token}
-use Rattle.grammar.specs.declared.Token.the-variants.{Name, Digits, Await}
+use Rattle.grammar.specs.declared.Token.the-variants.{Digits, Await}
 use Rattle.table.specs.Reader.{anyWord, sameAs, longName, badNumber, twice}
 use Rattle.forms.proofs.ClockNames.{same-turned, has, found}
 use Rattle.table.proofs.ReaderLaws.{name-no-await}

@@ -4,7 +4,7 @@ use mathlib.Core.Path.{_≡_, refl, sym, ap, subst, _∙_}
 use mathlib.Core.Logic.{_↔_}
 use mathlib.Core.Bool.{Bool, true, false, not, cond, false≢true}
 use mathlib.Core.List.{List, [], _∷_, _++_}
-use Prim.Native.Nat.{ℕ, suc, _+_, _≤_, _<_}
+use Prim.Native.Nat.{ℕ, suc, _≤_}
 use native.Mathlib.Omega.{arith}
 use borrow.Author.Tests.{ltb-false}
 use lib.Dec.{leb}
@@ -20,20 +20,19 @@ use Rattle.text.specs.Bytes.{inClass, allBytes}
 use Rattle.text.specs.Split.{span, bytesOf}
 use Rattle.text.specs.declared.Class.the-variants.{Space, Printable}
 use Rattle.text.specs.declared.Span.{Span}
-use Rattle.grammar.specs.Building.{withConstraint}
 use Rattle.grammar.specs.Grammar.{Parsed, noForm, parsed, Formed, lineWords, formIn}
 use Rattle.grammar.specs.Names.{withWords}
 use Rattle.grammar.specs.declared.Builder.{Builder}
 use Rattle.grammar.specs.declared.Names.{Names}
 use Rattle.forms.specs.Forms.{Words, Line, wordsOf, both, awaits, Form, relates, defines, Operand, HasForm, IsForm, IsOperand}
-use Rattle.forms.specs.Lines.{namesIn, withNames, clockNames, Filled, Breaks, no-form, await-number, BreaksNothing}
+use Rattle.forms.specs.Lines.{clockNames, Filled, Breaks, no-form, await-number, BreaksNothing}
 use Rattle.forms.proofs.BlankLines.{blank-words, other-words, blank-breaks-nothing}
 use Rattle.forms.proofs.Broken.{Clear, clear-first, clear-next, clear-last}
 use Rattle.forms.proofs.ClockNames.{names-more}
 use Rattle.forms.proofs.FormRows.{formOf, form-sound, no-form-row}
 use Rattle.forms.proofs.Said.{said}
 use Rattle.forms.proofs.SplitWords.{Inside, inside-more, line-bytes, words-are, words-inside, cut-same}
-use Rattle.table.specs.Reader.{anyWord, longName, badNumber, twice, addLine, formStep, wordsStep, filledStep, blank, lineStep}
+use Rattle.table.specs.Reader.{anyWord, longName, badNumber, twice, addLine, formStep, filledStep, blank, lineStep}
 use Rattle.table.proofs.BrokenRows.{row-11, row-13, row-14, row-15, row-16, row-17, row-18}
 use Rattle.table.proofs.LineAdded.{Builds, Added, none-added, one-added, builds-on, blank-builds, form-builds}
 use Rattle.table.proofs.NamesListed.{listed, Named, named-in, all-named}

@@ -14,12 +14,9 @@ use Rattle.text.specs.Bytes.{sameBytes}
 use Rattle.text.specs.Split.{bytesOf}
 use Rattle.text.specs.declared.Span.{Span}
 use Rattle.grammar.specs.Grammar.{clockOf}
-use Rattle.grammar.specs.Names.{position, numberIn, withNew, unlessFound, withWord, withWords}
-use Rattle.grammar.specs.Tokens.{is, tokenOf}
-use Rattle.grammar.specs.declared.Found.{Found}
+use Rattle.grammar.specs.Names.{position, numberIn, withNew, unlessFound, withWords}
 use Rattle.grammar.specs.declared.Found.the-variants.{At, Nothing}
 use Rattle.grammar.specs.declared.Names.{Names}
-use Rattle.grammar.specs.declared.Token.the-variants.{Name}
 use Rattle.forms.specs.Forms.{Word, Words, oneOf, isName}
 use Rattle.forms.specs.Lines.{namesIn, withNames, standing}
 use Rattle.forms.proofs.ClockNames.{same-turned, Keeps, withOne, keeps-same, keeps-then, keeps-more, grows-one}

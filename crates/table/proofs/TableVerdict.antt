@@ -4,17 +4,15 @@ use mathlib.Core.Path.{_≡_, refl, sym, ap, subst, _∙_}
 use mathlib.Core.Logic.{_↔_}
 use mathlib.Core.Bool.{Bool, true, false}
 use mathlib.Core.List.{List, [], _∷_, _++_, append-nil, append-assoc}
-use Prim.Native.Nat.{ℕ, zero, suc, _+_, _≤_, _<_}
+use Prim.Native.Nat.{ℕ, suc, _+_, _≤_, _<_}
 use native.Mathlib.Omega.{arith}
 use borrow.Author.Tests.{ltb-true, ltb-false}
 use lib.Dec.{ltb}
-use lib.ListN.{length, take}
+use lib.ListN.{length}
 use Rattle.limit.specs.Checked.{Checked, passed, stopped, refuseIf, andThen}
 use Rattle.limit.specs.Limit.{numberOf}
-use Rattle.limit.specs.declared.Limit.{Limit}
 use Rattle.limit.specs.declared.Limit.the-variants.{TableLength}
 use Rattle.constraint.specs.Lists.{slots}
-use Rattle.constraint.specs.Ticks.{none, bits}
 use Rattle.constraint.specs.declared.Constraint.{Constraint}
 use Rattle.constraint.proofs.Slots.{slots-slots}
 use Rattle.constraint.proofs.TickSets.{bits-zero}
@@ -22,22 +20,22 @@ use Rattle.text.specs.Bytes.{inClass}
 use Rattle.text.specs.Split.{bytesOf, piecesAt}
 use Rattle.text.specs.declared.Class.the-variants.{Newline}
 use Rattle.text.specs.declared.Span.{Span}
-use Rattle.grammar.specs.Building.{start, finish}
+use Rattle.grammar.specs.Building.{start}
 use Rattle.grammar.specs.declared.Builder.{Builder}
 use Rattle.grammar.specs.declared.Table.{Table}
-use Rattle.forms.specs.Forms.{Words, Line, wordsOf, linesOf}
-use Rattle.forms.specs.Lines.{namesIn, withNames, withLines, clockNames, constraints, NothingBroken, TableRefuses, too-long, TableReads, recordOf, Recorded, no-line, blank, formed}
+use Rattle.forms.specs.Forms.{Words, Line, linesOf}
+use Rattle.forms.specs.Lines.{withLines, clockNames, constraints, NothingBroken, TableRefuses, too-long, TableReads, recordOf, Recorded, no-line, blank, formed}
 use Rattle.forms.proofs.Broken.{Stops, stops-refuses, refused-once, not-both}
 use Rattle.forms.proofs.ClockNames.{names-more, lines-keep, keeps-same}
 use Rattle.forms.proofs.FormNames.{line-named, record-kept}
 use Rattle.forms.proofs.Said.{said}
 use Rattle.forms.proofs.SplitWords.{Ordered, ordered-to, lines-are, lines-ordered}
 use Rattle.table.specs.Claims.{RefusedExactly, ReadExactly, ReadAs, RecordsAreForms}
-use Rattle.table.specs.Reader.{lineStep, read, refused, Said, Told, tellOf, readLines, mostBytes, readTable}
+use Rattle.table.specs.Reader.{read, refused, tellOf, readLines, mostBytes, readTable}
 use Rattle.table.proofs.ClocksDefined.{Marks, no-marks}
 use Rattle.table.proofs.LineAdded.{Builds, builds-on, Added, none-added, one-added}
-use Rattle.table.proofs.LineVerdict.{Verdict, Next, line-verdict}
-use Rattle.table.proofs.NamesListed.{listed, Named}
+use Rattle.table.proofs.LineVerdict.{Verdict, line-verdict}
+use Rattle.table.proofs.NamesListed.{listed}
 
 module _ (t : List ℕ) where
   -- ---- what a table that was read has, of lines from line n on: the names us, and behind the records rs those of the lines
@@ -129,8 +127,8 @@ module _ (t : List ℕ) where
       of-lines h (stopped m p) a = rw (a .2) (stops-refuses t h m (a .0) (a .1))
 
       go : (x : Bool) → ltb mostBytes (length t) ≡ x → Answer (refuseIf x TableLength 0 lines)
-      go true q = too-long (ltb-true mostBytes (length t) q)
-      go false q = of-lines (ltb-false mostBytes (length t) q) lines read-lines
+      go true q = let h : mostBytes < length t = ltb-true mostBytes (length t) q in too-long (omega arith)
+      go false q = let h : length t ≤ mostBytes = ltb-false mostBytes (length t) q in of-lines (omega arith) lines read-lines
 
   -- ---- and nothing else is
   module _ (n p : ℕ) where
