@@ -1,11 +1,8 @@
 -- 51: a word in range is within its million, and where a record held from a word in range, its next word is in range exactly when it is within
--- its million. With the test of one word before that of its form. Assumes nothing.
+-- its million. Assumes nothing.
 use mathlib.Core.Path.{_≡_, refl, sym, _∙_}
 use mathlib.Core.Logic.{_⊎_, inl, inr}
 use mathlib.Core.Bool.{true, false, false≢true, and-true}
-use mathlib.Core.List.{[], _∷_}
-use denote.Enum.Declared.{tagOf}
-use types.Run.{OneOf, miss}
 use lib.Dec.{leb, leb·suc-suc}
 use lib.IntN.{ℤ, pos, negsuc, natAbs}
 use Rattle.constraint.specs.Meaning.{counterOf, counterRange, within, holds, nextWord, inRange}
@@ -17,7 +14,6 @@ use Rattle.constraint.specs.declared.Counter.the-variants.{Fixed, Gap, L
 use Rattle.constraint.specs.declared.Parameter.{Parameter}
 use Rattle.constraint.specs.declared.Word.{Word}
 use Rattle.constraint.proofs.Booleans.{and-r}
-use Rattle.constraint.proofs.Counter as counter
 use Rattle.constraint.proofs.Laws.{Past, next-in-range}
 
 -- ---- one word
@@ -49,27 +45,6 @@ past-million Until n z p = absurd p
 lands : (k : Counter) (n : Parameter) (z : ℤ) → (within (counterRange k n) z ≡ true) ⊎ Past k z → within (counterRange k n) z ≡ withinMillion k z
 lands k n z (inl e) = e ∙ sym (in-million k n z e)
 lands k n z (inr p) = past-million k n z p
-
--- ---- the test of a word, before that of the form
-
-pub near-million : (k : Counter) (z : ℤ) → leb (natAbs z) 1_000_000 ≡ true → withinMillion k z ≡ true
-near-million Fixed z e = refl
-near-million Gap z e = e
-near-million Lead z e = e
-near-million Countdown z e = refl
-near-million StrictSample z e = refl
-near-million Sample z e = refl
-near-million Until z e = refl
-
--- counters but a gap and a lead; the numbers are the places of their variants
-pub no-million : (k : Counter) (z : ℤ) → OneOf (0 ∷ 3 ∷ 4 ∷ 5 ∷ 6 ∷ []) (tagOf counter.the-type k) → withinMillion k z ≡ true
-no-million Fixed z h = refl
-no-million Gap z h = absurd (miss (0 ∷ 3 ∷ 4 ∷ 5 ∷ 6 ∷ []) 1 tt h)
-no-million Lead z h = absurd (miss (0 ∷ 3 ∷ 4 ∷ 5 ∷ 6 ∷ []) 2 tt h)
-no-million Countdown z h = refl
-no-million StrictSample z h = refl
-no-million Sample z h = refl
-no-million Until z h = refl
 
 -- ---- one record, which held with a word in range
 pub range-is-million : (r : Constraint) (w : Word) (F : Ticks) → inRange r w ≡ true → holds r w F ≡ true → inRange r (nextWord r w F) ≡ inMillion r (nextWord r w F)

@@ -1,17 +1,18 @@
 -- Which clocks a form names, and that it looks at no other. Assumes nothing.
 use mathlib.Core.Path.{_≡_, refl, sym, _∙_}
-use mathlib.Core.Bool.{Bool}
+use mathlib.Core.Bool.{Bool, true}
 use mathlib.Core.List.{[], _∷_, map}
 use Prim.Native.Nat.{ℕ}
 use denote.Enum.Declared.{tagOf}
 use types.Run.{OneOf, miss}
-use Rattle.constraint.specs.Meaning.{operands, named, clocksOf, due, holdsWhen, counterOf, change, holds, nextWord}
+use Rattle.constraint.specs.Meaning.{operands, named, clocksOf, due, holdsWhen, definitionCounter, counterOf, change, holds, nextWord, parameterFits}
 use Rattle.constraint.specs.Ticks.{Ticks}
 use Rattle.constraint.specs.declared.Constraint.{Constraint}
 use Rattle.constraint.specs.declared.Definition.{Definition}
 use Rattle.constraint.specs.declared.Definition.the-variants.{Union, Inter, Lub, Glb, Await, StrictlySampled, Sampled, Upto}
 use Rattle.constraint.specs.declared.Kind.{Kind}
 use Rattle.constraint.specs.declared.Kind.the-variants.{Empty, Relates, Defines}
+use Rattle.constraint.specs.declared.Parameter.{Parameter}
 use Rattle.constraint.specs.declared.Word.{Word}
 use Rattle.constraint.proofs.Definition as declared
 
@@ -25,6 +26,17 @@ two-operands Await a b h = absurd (miss (0 ∷ 1 ∷ 2 ∷ 3 ∷ 5 ∷ 6 ∷ 7 �
 two-operands StrictlySampled a b h = refl
 two-operands Sampled a b h = refl
 two-operands Upto a b h = refl
+
+-- nor has it a number
+pub no-number : (k : Definition) (n : Parameter) → OneOf (0 ∷ 1 ∷ 2 ∷ 3 ∷ 5 ∷ 6 ∷ 7 ∷ []) (tagOf declared.the-type k) → parameterFits (definitionCounter k) n ≡ true
+no-number Union n h = refl
+no-number Inter n h = refl
+no-number Lub n h = refl
+no-number Glb n h = refl
+no-number Await n h = absurd (miss (0 ∷ 1 ∷ 2 ∷ 3 ∷ 5 ∷ 6 ∷ 7 ∷ []) 4 tt h)
+no-number StrictlySampled n h = refl
+no-number Sampled n h = refl
+no-number Upto n h = refl
 
 -- ---- which places of a form are named does not depend on what stands there
 
