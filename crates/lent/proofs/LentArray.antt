@@ -27,7 +27,7 @@ use denote.Struct.Steps.{spelt}
 use Rattle.constraint.specs.declared.Constraint.{Constraint}
 use Rattle.constraint.proofs.Constraint as R
 use Rattle.constraint.proofs.Constraint.Laws as R′
-use Rattle.lent.proofs.LentTypes.{recordVals}
+use Rattle.lent.proofs.LentTypes.{recordVals, recordSize}
 use Rattle.lent.proofs.Prefix.{taken, beyond, cuts, joins}
 
 abbrev pub Records : RattleType
@@ -56,7 +56,7 @@ module _ (ys : List Constraint) (is : Is Records ys (recordsVals ys)) (n : ℕ) 
   pub room : Room R.the-row (length (take n ys))
   room = subst (Room R.the-row) (sym long) (few-fit n few, in-bytes n few)
     where
-      in-bytes : (m : ℕ) → m ≤ 66 → m * 24 < 2 ^ 63
+      in-bytes : (m : ℕ) → m ≤ 66 → m * recordSize < 2 ^ 63
       in-bytes m l = omega arith
 
   -- the elements in memory from l on: all, those that are lent, and the others

@@ -1,17 +1,21 @@
 -- The machine values of what the lent calls take and give, and the type of a lent slice of records; a value has those that its type tells, and so have its fields. Assumes nothing.
 use mathlib.Core.Path.{_≡_, subst}
+use Prim.Native.Nat.{ℕ}
 use lib.ListN.{length}
 use mathlib.Core.List.{List, [], _∷_}
 use mir.Syntax.{Lifetime, Ty, imm, tyRef}
 use mir.Val.{Val}
 use denote.Laws.{Is}
-use denote.Memory.{pointee}
+use denote.Memory.{pointee, mem}
 use denote.Slice.{sliceTy}
 use denote.Struct.Declared.{Declared, row}
 use denote.Enum.Laws as EL
 use denote.Struct.Laws as LL
+use Rattle.constraint.specs.declared.Clocks.{Clocks}
 use Rattle.constraint.specs.declared.Configuration.{Configuration}
 use Rattle.constraint.specs.declared.Constraint.{Constraint}
+use Rattle.constraint.proofs.Clocks as K
+use Rattle.constraint.proofs.Clocks.Laws as K′
 use Rattle.constraint.proofs.Configuration as C
 use Rattle.constraint.proofs.Configuration.Laws as C′
 use Rattle.constraint.proofs.Constraint as R
@@ -33,15 +37,22 @@ use Rattle.judging.proofs.Stepped.Laws as T′
 use Rattle.lent.proofs.Survey as S
 use Rattle.lent.proofs.Survey.Laws as S′
 
--- of a record, of a configuration and of what is known
+-- of a record, of a table's clocks, of a configuration and of what is known
 abbrev pub recordVals : Constraint → List Val
 recordVals = LL.vals R.the-type R′.the-laws
+
+abbrev pub clockVals : Clocks → List Val
+clockVals = LL.vals K.the-type K′.the-laws
 
 abbrev pub wordVals : Configuration → List Val
 wordVals = LL.vals C.the-type C′.the-laws
 
 abbrev pub knownVals : Survey → List Val
 knownVals = LL.vals S.the-type S′.the-laws
+
+-- the bytes of a record
+abbrev pub recordSize : ℕ
+recordSize = mem R.the-row .size
 
 abbrev pub lentRecords : Lifetime → Ty
 lentRecords ℓ = sliceTy (tyRef ℓ imm (pointee (R.the-row .written)))

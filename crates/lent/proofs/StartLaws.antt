@@ -6,17 +6,17 @@ use Prim.Native.Nat.{ℕ, zero, suc, _+_, _≤_, _<_}
 use native.Mathlib.Numerals.{add-one}
 use native.Mathlib.Omega.{arith}
 use borrow.Author.Tests.{lt-leb}
-use lib.Dec.{leb}
 use lib.ListN.{length, take, getD, set}
 use lib.Seq.{length-take-le}
 use Rattle.limit.specs.Limit.{numberOf}
 use Rattle.limit.specs.declared.Check.the-variants.{Passed, Refused}
 use Rattle.limit.proofs.Numbers.{refusals-differ}
-use Rattle.constraint.specs.Lists.{at, slots, recordFits, firstUnfit, brokenRecord}
+use Rattle.constraint.specs.Lists.{at, slots, recordFits, firstUnfit, countsFit, brokenRecord}
 use Rattle.constraint.specs.Meaning.{definedOf}
 use Rattle.constraint.specs.Ticks.{Ticks, none, addingAll}
 use Rattle.constraint.specs.declared.Broken.{Broken}
 use Rattle.constraint.specs.declared.Broken.the-variants.{Nowhere, At}
+use Rattle.constraint.specs.declared.Clocks.{Clocks}
 use Rattle.constraint.specs.declared.Constraint.{Constraint}
 use Rattle.constraint.proofs.OneMore.{start-passes}
 use Rattle.judging.specs.Single.{stepOf}
@@ -46,19 +46,19 @@ slots-stop (suc k) (r ∷ rs) (suc i) (suc n) full more = ap (λ ss. r ∷ ss) (
 
 -- ---- 59: of a list in 64 slots no more is asked, since a 65th record is refused whatever it is
 
-unfit-slots : (clocks : ℕ) (earlier : Ticks) (i k : ℕ) (rs : List Constraint) → i + k ≡ 65 → firstUnfit clocks earlier i (slots (length rs) (slots k rs)) ≡ firstUnfit clocks earlier i rs
+unfit-slots : (clocks : Clocks) (earlier : Ticks) (i k : ℕ) (rs : List Constraint) → i + k ≡ 65 → firstUnfit clocks earlier i (slots (length rs) (slots k rs)) ≡ firstUnfit clocks earlier i rs
 unfit-slots clocks earlier i k [] e = refl
 unfit-slots clocks earlier i zero (r ∷ rs) e = rw (lt-leb i 64 (omega (arith, e)))
 unfit-slots clocks earlier i (suc k) (r ∷ rs) e =
     ap (λ (b : Broken). cond (recordFits clocks earlier i r) b (at i)) (unfit-slots clocks (addingAll (definedOf r) earlier) (suc i) k rs (omega (arith, e)))
 
-pub broken-slots : (clocks n : ℕ) (rs : List Constraint) → length rs ≡ n → brokenRecord clocks (slots n (slots 64 rs)) ≡ brokenRecord clocks rs
-broken-slots clocks n rs e = rw (← e) (ap (λ (b : Broken). cond (leb clocks 32) b (at 0)) (unfit-slots clocks none 1 64 rs refl))
+pub broken-slots : (clocks : Clocks) (n : ℕ) (rs : List Constraint) → length rs ≡ n → brokenRecord clocks (slots n (slots 64 rs)) ≡ brokenRecord clocks rs
+broken-slots clocks n rs e = rw (← e) (ap (λ (b : Broken). cond (countsFit clocks) b (at 0)) (unfit-slots clocks none 1 64 rs refl))
 
 pub length-lent : (count : ℕ) (rs : List Constraint) → length rs ≡ 66 → length (lent count rs) ≡ atMost count
 length-lent count rs e = length-take-le (atMost count) rs (omega (arith, e, few-lent count (atMost count) refl))
 
-pub start-first-66 : (clocks : ℕ) (rs : List Constraint) → startOf clocks (take 66 rs) ≡ startOf clocks rs
+pub start-first-66 : (clocks : Clocks) (rs : List Constraint) → startOf clocks (take 66 rs) ≡ startOf clocks rs
 unfolding startOf
 start-first-66 clocks rs = asked-take clocks (λ qs b. startAt b qs) (λ p qs us. refl) rs
 
@@ -73,7 +73,7 @@ start-said-determines (Refused r) (Refused s) e =
     let p : r .place .0 ≡ s .place .0 = cc in
     ap Refused (refusals-differ r s n p)
 
-starts : (clocks : ℕ) (rs : List Constraint) (b : Broken) → brokenRecord clocks rs ≡ b → Starts clocks rs
+starts : (clocks : Clocks) (rs : List Constraint) (b : Broken) → brokenRecord clocks rs ≡ b → Starts clocks rs
 unfolding startOf stepOf
 starts clocks rs Nowhere e = record {
   passes = λ s f below. record { records = e; words = rw e (start-passes 1 64 rs); ticks = below };

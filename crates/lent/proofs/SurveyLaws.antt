@@ -12,13 +12,14 @@ use lib.ListN.{length, drop, set, length-append}
 use lib.Seq.{drop-cons, set-at, append-snoc}
 use Rattle.limit.specs.declared.Limit.{Limit}
 use Rattle.limit.specs.declared.Limit.the-variants.{Records, ConfigurationWord, TickSet}
-use Rattle.constraint.specs.Lists.{at, recordFits, firstUnfit, brokenRecord, firstOut, brokenWord}
+use Rattle.constraint.specs.Lists.{at, recordFits, firstUnfit, countsFit, brokenRecord, firstOut, brokenWord}
 use Rattle.constraint.specs.Meaning.{wellFormed, inRange, nextWord, definedOf}
 use Rattle.constraint.specs.Million.{firstPast}
 use Rattle.constraint.specs.SamePlace.{Answer, refuseAt, samePlaceOf}
 use Rattle.constraint.specs.Ticks.{none, addingAll, bits}
 use Rattle.constraint.specs.declared.Broken.{Broken}
 use Rattle.constraint.specs.declared.Broken.the-variants.{Nowhere, At}
+use Rattle.constraint.specs.declared.Clocks.{Clocks}
 use Rattle.constraint.specs.declared.Configuration.{Configuration}
 use Rattle.constraint.specs.declared.Constraint.{Constraint}
 use Rattle.constraint.specs.declared.Word.{Word}
@@ -64,26 +65,26 @@ lowest-first Nowhere false i later = refl
 -- ---- 59
 
 -- where the record fits, the clocks that it defines are added
-module _ (s : Survey) (r : Constraint) (rs : List Constraint) (h : s .clocks ≤ 32) where
+module _ (s : Survey) (r : Constraint) (rs : List Constraint) (h : s .clocks .count ≤ 32) where
   later-unfit : (x : Bool) → recordFits (s .clocks) (bits (s .earlier)) (s .place) r ≡ x
       → cond x (firstUnfit (s .clocks) (bits (visited s r .earlier)) (visited s r .place) rs) (at (s .place))
       ≡ cond x (firstUnfit (s .clocks) (addingAll (definedOf r) (bits (s .earlier))) (suc (s .place)) rs) (at (s .place))
   unfolding visited
   later-unfit false e = refl
   later-unfit true e =
-      let w : wellFormed (s .clocks) r ≡ true = and-l _ _ (and-r (leb (s .place) 64) _ e) in
-      rw (and-l (leb (s .place) 64) _ e, add-one (s .place), defined-bits (s .clocks) (s .earlier) r h w)
+      let w : wellFormed (s .clocks .count) r ≡ true = and-l _ _ (and-r (leb (s .place) 64) _ e) in
+      rw (and-l (leb (s .place) 64) _ e, add-one (s .place), defined-bits (s .clocks .count) (s .earlier) r h w)
 
-unfit-found : (rs : List Constraint) (s : Survey) → s .clocks ≤ 32 → surveyed s rs .unfit ≡ firstOf (s .unfit) (firstUnfit (s .clocks) (bits (s .earlier)) (s .place) rs)
+unfit-found : (rs : List Constraint) (s : Survey) → s .clocks .count ≤ 32 → surveyed s rs .unfit ≡ firstOf (s .unfit) (firstUnfit (s .clocks) (bits (s .earlier)) (s .place) rs)
 unfolding surveyed visited
 unfit-found [] s h = nowhere-else (s .unfit)
 unfit-found (r ∷ rs) s h = unfit-found rs (visited s r) h ∙ lowest-first (s .unfit) _ (s .place) _ ∙ ap (firstOf (s .unfit)) (later-unfit s r rs h _ refl)
 
-unfit-is : (clocks : ℕ) (rs : List Constraint) (c : Configuration) (f : ℕ) → unfitAt (surveyed (begins clocks c f) rs) ≡ brokenRecord clocks rs
-unfit-is clocks rs c f = rw (clocks-kept rs (begins clocks c f)) (go (leb clocks 32) refl)
+unfit-is : (clocks : Clocks) (rs : List Constraint) (c : Configuration) (f : ℕ) → unfitAt (surveyed (begins clocks c f) rs) ≡ brokenRecord clocks rs
+unfit-is clocks rs c f = rw (clocks-kept rs (begins clocks c f)) (go (countsFit clocks) refl)
   where
-    go : (x : Bool) → leb clocks 32 ≡ x → cond x (surveyed (begins clocks c f) rs .unfit) (at 0) ≡ cond x (firstUnfit clocks none 1 rs) (at 0)
-    go true e = unfit-found rs (begins clocks c f) (leb-true clocks 32 e) ∙ rw bits-zero
+    go : (x : Bool) → countsFit clocks ≡ x → cond x (surveyed (begins clocks c f) rs .unfit) (at 0) ≡ cond x (firstUnfit clocks none 1 rs) (at 0)
+    go true e = unfit-found rs (begins clocks c f) (leb-true (clocks .count) 32 e) ∙ rw bits-zero
     go false e = refl
 
 -- ---- 60
@@ -174,7 +175,7 @@ after-found (r ∷ rs) s i done h e d =
 
 -- ---- the answers
 
-module _ (clocks : ℕ) (rs : List Constraint) (c : Configuration) (f : ℕ) (h : length (c .words) ≡ 64) (p : brokenRecord clocks rs ≡ Nowhere) where
+module _ (clocks : Clocks) (rs : List Constraint) (c : Configuration) (f : ℕ) (h : length (c .words) ≡ 64) (p : brokenRecord clocks rs ≡ Nowhere) where
   room : Room (begins clocks c f) 0 rs
   room = record { here = refl; room = omega (arith, records-pass clocks none 1 rs (omega arith) (clocks-pass clocks rs p .1)); words = h }
 
@@ -198,7 +199,7 @@ refuse : (l : Limit) {a b : Broken} {t u : Answer} → a ≡ b → (b ≡ Nowher
 refuse l {b = Nowhere} p n = rw p (n refl)
 refuse l {b = At x} p n = rw p
 
-pub survey-steps : (clocks : ℕ) (rs : List Constraint) (c : Configuration) (f : ℕ) → length (c .words) ≡ 64 → concluded (surveyed (begins clocks c f) rs) ≡ stepOf clocks rs c f
+pub survey-steps : (clocks : Clocks) (rs : List Constraint) (c : Configuration) (f : ℕ) → length (c .words) ≡ 64 → concluded (surveyed (begins clocks c f) rs) ≡ stepOf clocks rs c f
 unfolding concluded stepOf
 survey-steps clocks rs c f h =
     let s = begins clocks c f in
@@ -210,7 +211,7 @@ survey-steps clocks rs c f h =
     ap judgedTold (judged-is clocks rs c f h p q))))
 
 pub survey-same :
-    (clocks : ℕ) (rs : List Constraint) (a b : Configuration) → length (a .words) ≡ 64 → length (b .words) ≡ 64
+    (clocks : Clocks) (rs : List Constraint) (a b : Configuration) → length (a .words) ≡ 64 → length (b .words) ≡ 64
     → concludedSame (surveyed (begins clocks a 0) rs) (surveyed (begins clocks b 0) rs) ≡ samePlaceOf clocks rs (a .words) (b .words)
 survey-same clocks rs a b h k =
     refuse Records (unfit-is clocks rs a 0) (λ p.

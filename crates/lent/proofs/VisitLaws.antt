@@ -18,6 +18,7 @@ use Rattle.constraint.specs.Million.{inMillion}
 use Rattle.constraint.specs.Ticks.{bits, withTicks}
 use Rattle.constraint.specs.declared.Broken.{Broken}
 use Rattle.constraint.specs.declared.Broken.the-variants.{Nowhere}
+use Rattle.constraint.specs.declared.Clocks.{Clocks}
 use Rattle.constraint.specs.declared.Configuration.{Configuration}
 use Rattle.constraint.specs.declared.Constraint.{Constraint}
 use Rattle.constraint.specs.declared.Word.{Word}
@@ -70,16 +71,16 @@ module _ (ws : List Word) (i : ℕ) where
 -- ---- the tick set
 
 -- shifted by the clock count, nothing is left of it, or something is
-pub ticks-below : (clocks f : ℕ) → f / 2 ^ clocks ≡ 0 → Nowhere ≡ beyondClocks clocks f
-ticks-below clocks f e = rw (lt-ltb f (2 ^ clocks) (omega (arith, rw e at (div-add-mod' f (2 ^ clocks)), mod-lt f (pow-pos clocks))))
+pub ticks-below : (clocks : Clocks) (f : ℕ) → f / 2 ^ clocks .count ≡ 0 → Nowhere ≡ beyondClocks clocks f
+ticks-below clocks f e = rw (lt-ltb f (2 ^ clocks .count) (omega (arith, rw e at (div-add-mod' f (2 ^ clocks .count)), mod-lt f (pow-pos (clocks .count)))))
 
-pub ticks-beyond : (clocks f : ℕ) → (f / 2 ^ clocks ≡ 0 → ⊥) → at 0 ≡ beyondClocks clocks f
-ticks-beyond clocks f n = go (ltb f (2 ^ clocks)) refl
+pub ticks-beyond : (clocks : Clocks) (f : ℕ) → (f / 2 ^ clocks .count ≡ 0 → ⊥) → at 0 ≡ beyondClocks clocks f
+ticks-beyond clocks f n = go (ltb f (2 ^ clocks .count)) refl
   where
-    go : (x : Bool) → ltb f (2 ^ clocks) ≡ x → at 0 ≡ cond x Nowhere (at 0)
+    go : (x : Bool) → ltb f (2 ^ clocks .count) ≡ x → at 0 ≡ cond x Nowhere (at 0)
     go true e = absurd (n (div-eq-of-lt (ltb-true _ _ e)))
     go false e = refl
 
 -- 32 bits are below 2 ^ 32
-pub ticks-room : (clocks f : ℕ) → f < 2 ^ 32 → 32 ≤ clocks → Nowhere ≡ beyondClocks clocks f
-ticks-room clocks f h k = rw (lt-ltb f (2 ^ clocks) (lt-of-lt-of-le h (pow-mono k)))
+pub ticks-room : (clocks : Clocks) (f : ℕ) → f < 2 ^ 32 → 32 ≤ clocks .count → Nowhere ≡ beyondClocks clocks f
+ticks-room clocks f h k = rw (lt-ltb f (2 ^ clocks .count) (lt-of-lt-of-le h (pow-mono k)))

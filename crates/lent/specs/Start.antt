@@ -9,10 +9,11 @@ use Rattle.limit.specs.Limit.{numberOf}
 use Rattle.limit.specs.declared.Check.{Check}
 use Rattle.limit.specs.declared.Check.the-variants.{Passed, Refused}
 use Rattle.limit.specs.declared.Limit.the-variants.{Records}
-use Rattle.constraint.specs.Lists.{brokenRecord, slots, startWords}
+use Rattle.constraint.specs.Lists.{counting, brokenRecord, slots, startWords}
 use Rattle.constraint.specs.Meaning.{word}
 use Rattle.constraint.specs.declared.Broken.{Broken}
 use Rattle.constraint.specs.declared.Broken.the-variants.{Nowhere, At}
+use Rattle.constraint.specs.declared.Clocks.{Clocks}
 use Rattle.constraint.specs.declared.Configuration.{Configuration}
 use Rattle.constraint.specs.declared.Constraint.{Constraint}
 use Rattle.judging.specs.Answers.{Passes}
@@ -47,25 +48,25 @@ abbrev pub startAt : Broken → List Constraint → StartTold
 startAt Nowhere rs = record { said = started; configuration = record { words = startWords (slots 64 rs) } }
 startAt (At p) rs = record { said = refused (numberOf Records) (p .0); configuration = record { words = replicate 64 (word (pos 0)) } }
 
-unfoldable pub startOf : (clocks : ℕ) → List Constraint → StartTold
+unfoldable pub startOf : Clocks → List Constraint → StartTold
 startOf clocks rs = startAt (brokenRecord clocks rs) rs
 
 -- ---- the claims: 59, 60 and 61 let a step of the clocks pass from the start words; and where a start is refused, so is every step
 
-pub record Starts (clocks : ℕ) (rs : List Constraint) : Type 0 where
-  pub passes : startOf clocks rs .said ≡ started → (f : ℕ) → f < 2 ^ clocks → Passes clocks rs (startOf clocks rs .configuration .words) f
+pub record Starts (clocks : Clocks) (rs : List Constraint) : Type 0 where
+  pub passes : startOf clocks rs .said ≡ started → (f : ℕ) → f < 2 ^ clocks .count → Passes clocks rs (startOf clocks rs .configuration .words) f
   pub refuses : (n p : ℕ) → startOf clocks rs .said ≡ refused n p → (c : Configuration) (f : ℕ) → stepOf clocks rs c f .said ≡ single.refused n p
 
 abbrev pub EveryStart : Type 0
-EveryStart = (clocks : ℕ) (rs : List Constraint) → Starts clocks rs
+EveryStart = (clocks : Clocks) (rs : List Constraint) → Starts clocks rs
 
 -- ---- document 01's example table, `req strictly precedes ack` and `done clockDef await 2 ack`: its start words are 0 2
 
-example-starts : startOf 3 exampleRecords ≡ record { said = started; configuration = record { words = word (pos 0) ∷ word (pos 2) ∷ replicate 62 (word (pos 0)) } }
+example-starts : startOf (counting 3) exampleRecords ≡ record { said = started; configuration = record { words = word (pos 0) ∷ word (pos 2) ∷ replicate 62 (word (pos 0)) } }
 unfolding startOf
 example-starts = refl
 
 -- on two clocks there is no `done`
-two-clocks : startOf 2 exampleRecords ≡ record { said = refused 59 2; configuration = record { words = replicate 64 (word (pos 0)) } }
+two-clocks : startOf (counting 2) exampleRecords ≡ record { said = refused 59 2; configuration = record { words = replicate 64 (word (pos 0)) } }
 unfolding startOf
 two-clocks = refl

@@ -7,13 +7,14 @@ use lib.Dec.{leb}
 use lib.IntN.{pos}
 use lib.ListN.{getD, set, drop}
 use Rattle.limit.specs.declared.Limit.the-variants.{Records, ConfigurationWord, TickSet}
-use Rattle.constraint.specs.Lists.{at, recordFits, firstOut}
+use Rattle.constraint.specs.Lists.{at, recordFits, countsFit, firstOut}
 use Rattle.constraint.specs.Meaning.{word, holds, nextWord, inRange, definedOf}
 use Rattle.constraint.specs.Million.{inMillion}
 use Rattle.constraint.specs.SamePlace.{Answer, same, different, refuseAt, sameWords}
 use Rattle.constraint.specs.Ticks.{bits, withTicks}
 use Rattle.constraint.specs.declared.Broken.{Broken}
 use Rattle.constraint.specs.declared.Broken.the-variants.{Nowhere, At}
+use Rattle.constraint.specs.declared.Clocks.{Clocks}
 use Rattle.constraint.specs.declared.Configuration.{Configuration}
 use Rattle.constraint.specs.declared.Constraint.{Constraint}
 use Rattle.constraint.specs.declared.Word.{Word}
@@ -24,7 +25,7 @@ use Rattle.judging.specs.declared.Outcome.the-variants.{Held, Failed, PastMilli
 use Rattle.lent.specs.declared.Survey.{Survey}
 
 -- before the first record, which will have the place 1
-abbrev pub begins : (clocks : ℕ) → Configuration → (ticks : ℕ) → Survey
+abbrev pub begins : Clocks → Configuration → (ticks : ℕ) → Survey
 begins clocks c f = record { clocks = clocks; ticks = f; before = c; after = c; place = 1; earlier = 0; unfit = Nowhere; out = Nowhere; failing = Nowhere; past = Nowhere }
 
 -- the lowest place at which a test fails
@@ -66,7 +67,7 @@ surveyed s (r ∷ rs) = surveyed (visited s r) rs
 
 -- 59: a clock count over 32 has place 0
 abbrev pub unfitAt : Survey → Broken
-unfitAt s = cond (leb (s .clocks) 32) (s .unfit) (at 0)
+unfitAt s = cond (countsFit (s .clocks)) (s .unfit) (at 0)
 
 -- 60: the words beyond the records, too
 abbrev pub firstOf : Broken → Broken → Broken

@@ -5,6 +5,7 @@ mod surveying;
 mod walks;
 
 use constraint::Broken;
+use constraint::Clocks;
 use constraint::Configuration;
 use judging::StepAnswer;
 use limit::Check;
@@ -19,7 +20,7 @@ pub use walks::step_on;
 // What is known of the records so far: the words after the step, the clocks that they define, and the lowest place of a record that does
 // not fit, of a word out of range, of a record that fails, and of a word that leaves its million.
 pub struct Survey {
-    pub clocks: u8,
+    pub clocks: Clocks,
     pub ticks: u32,
     pub before: Configuration,
     pub after: Configuration,

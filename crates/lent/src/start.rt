@@ -3,6 +3,7 @@ use super::Monitor;
 use super::Started;
 use super::walks::at_most;
 use constraint::Broken;
+use constraint::Clocks;
 use constraint::Configuration;
 use constraint::Constraint;
 use constraint::Word;
@@ -32,7 +33,7 @@ fn first_64(records: [Constraint; 66], n: usize) -> [Constraint; 64]
 }
 
 // A monitor with the start words of the first records of an array.
-pub fn start_on(records: [Constraint; 66], count: usize, clocks: u8) -> Started
+pub fn start_on(records: [Constraint; 66], count: usize, clocks: Clocks) -> Started
     ensures { λ r. ⌜ startTold r ≡ startOf clocks (lent count records) ⌝ }
 {
     let n = at_most(count);

@@ -1,6 +1,7 @@
 // The single step and the same-place question as one walk over records: what each record adds, and the answer at the end.
 use super::Survey;
 use constraint::Broken;
+use constraint::Clocks;
 use constraint::Configuration;
 use constraint::Constraint;
 use constraint::SamePlace;
@@ -19,7 +20,7 @@ ghost use Rattle.judging.specs.Single.{stepTold, beyondClocks};
 ghost use Rattle.lent.specs.Survey as s;
 
 // Before the first record.
-pub fn begin(clocks: u8, configuration: Configuration, ticks: u32) -> Survey
+pub fn begin(clocks: Clocks, configuration: Configuration, ticks: u32) -> Survey
     ensures { λ r. ⌜ r ≡ s.begins clocks configuration ticks ⌝ }
 {
     Survey {
@@ -127,7 +128,8 @@ pub fn visit(survey: Survey, constraint: Constraint) -> Survey
 fn unfit_at(survey: Survey) -> Broken
     ensures { λ r. ⌜ r ≡ s.unfitAt survey ⌝ }
 {
-    if 32 < survey.clocks {
+    let clocks = survey.clocks;
+    if !constraint::counts_fit(clocks) {
         return Broken::At(Place(0));
     }
     survey.unfit
@@ -161,11 +163,12 @@ fn out_at(survey: Survey) -> Broken
 }
 
 // Limit 61: a bit at or above the clock count.
-fn beyond_clocks(clocks: u8, ticks: u32) -> Broken
+fn beyond_clocks(clocks: Clocks, ticks: u32) -> Broken
     ensures { λ r. ⌜ r ≡ beyondClocks clocks ticks ⌝ }
 {
-    if clocks < 32 {
-        if ticks >> clocks != 0 {
+    let count = clocks.count;
+    if count < 32 {
+        if ticks >> count != 0 {
             return Broken::At(Place(0));
         }
     }
@@ -193,7 +196,8 @@ pub fn conclude(survey: Survey) -> Stepped
     if let Broken::At(place) = out_at(survey) {
         return refused(Limit::ConfigurationWord, place, before);
     }
-    if let Broken::At(place) = beyond_clocks(survey.clocks, survey.ticks) {
+    let clocks = survey.clocks;
+    if let Broken::At(place) = beyond_clocks(clocks, survey.ticks) {
         return refused(Limit::TickSet, place, before);
     }
     let failing = survey.failing;

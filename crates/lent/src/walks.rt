@@ -7,6 +7,7 @@ use super::surveying::begin;
 use super::surveying::conclude;
 use super::surveying::conclude_same;
 use super::surveying::visit;
+use constraint::Clocks;
 use constraint::Configuration;
 use constraint::Constraint;
 use constraint::SamePlace;
@@ -21,7 +22,7 @@ ghost use Rattle.lent.specs.Survey as s;
 // Record by record, from before the first.
 pub fn survey(
     records: &[Constraint],
-    clocks: u8,
+    clocks: Clocks,
     configuration: Configuration,
     ticks: u32,
 ) -> Survey
@@ -37,7 +38,12 @@ pub fn survey(
 }
 
 // The single step.
-pub fn step(records: &[Constraint], clocks: u8, configuration: Configuration, ticks: u32) -> Stepped
+pub fn step(
+    records: &[Constraint],
+    clocks: Clocks,
+    configuration: Configuration,
+    ticks: u32,
+) -> Stepped
     ensures { λ r. ⌜ stepTold r ≡ stepOf clocks (now (records .entry)) configuration ticks ⌝ }
 {
     conclude(survey(records, clocks, configuration, ticks))
@@ -46,7 +52,7 @@ pub fn step(records: &[Constraint], clocks: u8, configuration: Configuration, ti
 // The same-place question.
 pub fn same_place(
     records: &[Constraint],
-    clocks: u8,
+    clocks: Clocks,
     first: Configuration,
     second: Configuration,
 ) -> SamePlace
@@ -59,7 +65,12 @@ pub fn same_place(
 }
 
 // The lent monitor, moved forward where it stands. After a refusal or a violation it holds what it held.
-pub fn advance(monitor: &mut Monitor, records: &[Constraint], clocks: u8, ticks: u32) -> StepAnswer
+pub fn advance(
+    monitor: &mut Monitor,
+    records: &[Constraint],
+    clocks: Clocks,
+    ticks: u32,
+) -> StepAnswer
     ensures { λ r. ⌜ movedTo r (now (monitor .exit)) ≡ stepOf clocks (now (records .entry)) (now (monitor .entry) .configuration) ticks ⌝ }
 {
     let stepped = step(records, clocks, monitor.configuration, ticks);
@@ -81,7 +92,7 @@ pub fn at_most(count: usize) -> usize
 pub fn same_place_on(
     records: [Constraint; 66],
     count: usize,
-    clocks: u8,
+    clocks: Clocks,
     first: Configuration,
     second: Configuration,
 ) -> SamePlace
@@ -96,7 +107,7 @@ pub fn advance_on(
     monitor: Monitor,
     records: [Constraint; 66],
     count: usize,
-    clocks: u8,
+    clocks: Clocks,
     ticks: u32,
 ) -> Advanced
     ensures { λ r. ⌜ movedTo (r .answer) (r .monitor) ≡ stepOf clocks (lent count records) (monitor .configuration) ticks ⌝ }
@@ -114,7 +125,7 @@ pub fn advance_on(
 pub fn step_on(
     records: [Constraint; 66],
     count: usize,
-    clocks: u8,
+    clocks: Clocks,
     configuration: Configuration,
     ticks: u32,
 ) -> Stepped

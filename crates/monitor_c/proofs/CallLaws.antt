@@ -7,6 +7,7 @@ use native.Mathlib.Omega.{arith}
 use borrow.Author.Tests.{lt-ltb, le-ltb, eq-eqb, ne-eqb}
 use lib.IntN.{ℤ}
 use lib.ListN.{length, set}
+use Rattle.constraint.specs.Lists.{counting}
 use Rattle.constraint.specs.SamePlace.{samePlaceOf}
 use Rattle.table.specs.Reader.{readTable}
 use Rattle.run.specs.Run.{runOf}
@@ -104,6 +105,6 @@ module _ (ns : List ℕ) (clocks : ℕ) (ws vs : List ℤ) (out : List ℕ) wher
   place-unknown a w v r k = rw (le-ltb (length out) 3 a, le-ltb (length ws) 64 w, le-ltb (length vs) 64 v, eq-eqb (length ns % 6) 0 r, k) refl
 
   pub place-done : 3 ≤ length out → 64 ≤ length ws → 64 ≤ length vs → length ns % 6 ≡ 0 → kindsKnown ns ≡ true
-      → placeLeft (samePlaceOf (clockOf clocks) (recordsOf ns) (configurationOf ws .words) (configurationOf vs .words)) out ≡ placeInto ns clocks ws vs out
+      → placeLeft (samePlaceOf (counting (clockOf clocks)) (recordsOf ns) (configurationOf ws .words) (configurationOf vs .words)) out ≡ placeInto ns clocks ws vs out
   unfolding placeInto
   place-done a w v r k = rw (le-ltb (length out) 3 a, le-ltb (length ws) 64 w, le-ltb (length vs) 64 v, eq-eqb (length ns % 6) 0 r, k) refl

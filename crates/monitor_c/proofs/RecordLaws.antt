@@ -10,6 +10,7 @@ use lib.ListN.{length, drop, take, replicate, length-drop, length-map}
 use lib.Seq.{sets, take-all, take-take, take-append-seam}
 use Rattle.constraint.specs.Lists.{empty}
 use Rattle.constraint.specs.SamePlace.{samePlaceOf}
+use Rattle.constraint.specs.declared.Clocks.{Clocks}
 use Rattle.constraint.specs.declared.Configuration.{Configuration}
 use Rattle.constraint.specs.declared.Constraint.{Constraint}
 use Rattle.constraint.specs.declared.Word.{Word}
@@ -89,13 +90,13 @@ lent-records rs = go (leb (length rs) 66) refl
 lent-numbers : (ns : List ℕ) → lent (length ns / 6) (sets (replicate 66 empty) 0 (recordsOf ns)) ≡ take 66 (recordsOf ns)
 lent-numbers ns = rw (how-many ns, sym (length-map (rows ns) recordOf)) (lent-records (recordsOf ns))
 
-pub start-lent : (clocks : ℕ) (ns : List ℕ) → startOf clocks (lent (length ns / 6) (sets (replicate 66 empty) 0 (recordsOf ns))) ≡ startOf clocks (recordsOf ns)
+pub start-lent : (clocks : Clocks) (ns : List ℕ) → startOf clocks (lent (length ns / 6) (sets (replicate 66 empty) 0 (recordsOf ns))) ≡ startOf clocks (recordsOf ns)
 start-lent clocks ns = rw (lent-numbers ns) (start-first-66 clocks (recordsOf ns))
 
-pub step-lent : (clocks : ℕ) (ns : List ℕ) (c : Configuration) (f : ℕ)
+pub step-lent : (clocks : Clocks) (ns : List ℕ) (c : Configuration) (f : ℕ)
     → stepOf clocks (lent (length ns / 6) (sets (replicate 66 empty) 0 (recordsOf ns))) c f ≡ stepOf clocks (recordsOf ns) c f
 step-lent clocks ns c f = rw (lent-numbers ns) (step-first-66 clocks (recordsOf ns) c f)
 
-pub place-lent : (clocks : ℕ) (ns : List ℕ) (ws vs : List Word)
+pub place-lent : (clocks : Clocks) (ns : List ℕ) (ws vs : List Word)
     → samePlaceOf clocks (lent (length ns / 6) (sets (replicate 66 empty) 0 (recordsOf ns))) ws vs ≡ samePlaceOf clocks (recordsOf ns) ws vs
 place-lent clocks ns ws vs = rw (lent-numbers ns) (place-first-66 clocks (recordsOf ns) ws vs)

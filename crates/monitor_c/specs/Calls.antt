@@ -5,6 +5,7 @@ use Prim.Native.Nat.{ℕ, _%_}
 use lib.Dec.{eqb, ltb}
 use lib.IntN.{ℤ}
 use lib.ListN.{length, drop}
+use Rattle.constraint.specs.Lists.{counting}
 use Rattle.constraint.specs.SamePlace as place
 use Rattle.constraint.specs.SamePlace.{samePlaceOf}
 use Rattle.constraint.specs.declared.Configuration.{Configuration}
@@ -114,13 +115,13 @@ abbrev pub startLeft : start.StartTold → List ℕ → List ℤ → Left
 startLeft t out ws = answeredLeft (ofStart (t .said)) (t .configuration) out ws
 
 abbrev pub startInto : (records : List ℕ) → (clocks : ℕ) → (answer : List ℕ) → (words : List ℤ) → Left
-startInto ns clocks out ws = onRecords ns out ws (startLeft (start.startOf (clockOf clocks) (recordsOf ns)) out ws)
+startInto ns clocks out ws = onRecords ns out ws (startLeft (start.startOf (counting (clockOf clocks)) (recordsOf ns)) out ws)
 
 abbrev pub stepLeft : single.StepTold → List ℕ → List ℤ → Left
 stepLeft t out ws = answeredLeft (ofStep (t .said)) (t .configuration) out ws
 
 abbrev pub stepInto : (records : List ℕ) → (clocks ticks : ℕ) → (answer : List ℕ) → (words : List ℤ) → Left
-stepInto ns clocks f out ws = onRecords ns out ws (stepLeft (single.stepOf (clockOf clocks) (recordsOf ns) (configurationOf ws) f) out ws)
+stepInto ns clocks f out ws = onRecords ns out ws (stepLeft (single.stepOf (counting (clockOf clocks)) (recordsOf ns) (configurationOf ws) f) out ws)
 
 -- ---- ccsl_same_place
 
@@ -141,4 +142,4 @@ placeInto ns clocks ws vs out =
     (cond (short vs 64) (answerLeft wordsShort out)
     (cond (ragged ns) (answerLeft recordsRagged out)
     (cond (not (kindsKnown ns)) (answerLeft kindUnknown out)
-    (placeLeft (samePlaceOf (clockOf clocks) (recordsOf ns) (configurationOf ws .words) (configurationOf vs .words)) out)))))
+    (placeLeft (samePlaceOf (counting (clockOf clocks)) (recordsOf ns) (configurationOf ws .words) (configurationOf vs .words)) out)))))

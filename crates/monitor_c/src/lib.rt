@@ -4,6 +4,7 @@ mod lists;
 mod numbers;
 mod records;
 
+use constraint::Clocks;
 use lists::configuration_of;
 use lists::put_answer;
 use lists::put_names;
@@ -126,7 +127,9 @@ pub extern "C" fn ccsl_start_words(
     let started = lent::start_on(
         records_of(records),
         records.len() / 6,
-        clock_of(clocks as u64),
+        Clocks {
+            count: clock_of(clocks as u64),
+        },
     );
     let outcome = started.outcome;
     let monitor = started.monitor;
@@ -162,7 +165,9 @@ pub extern "C" fn ccsl_step(
     let stepped = lent::step_on(
         records_of(records),
         records.len() / 6,
-        clock_of(clocks as u64),
+        Clocks {
+            count: clock_of(clocks as u64),
+        },
         configuration_of(words),
         ticks,
     );
@@ -202,7 +207,9 @@ pub extern "C" fn ccsl_same_place(
     let place = lent::same_place_on(
         records_of(records),
         records.len() / 6,
-        clock_of(clocks as u64),
+        Clocks {
+            count: clock_of(clocks as u64),
+        },
         configuration_of(first),
         configuration_of(second),
     );

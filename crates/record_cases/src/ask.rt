@@ -189,7 +189,8 @@ pub fn range(line: &[u8]) {
 pub fn fits(line: &[u8]) {
     let record = every(line);
     let clock = clock_of(number(line, b"fits", 0));
-    say_answer(constraint::well_formed(clocks(line), record));
+    let clocks = clocks(line);
+    say_answer(constraint::well_formed(clocks.count, record));
     say_answer(constraint::defines_again(constraint::with_tick(0, clock), record));
 }
 

@@ -1,4 +1,5 @@
 // What a line says: numbers, configurations and records, each behind the word that names it.
+use constraint::Clocks;
 use constraint::Configuration;
 use constraint::Constraint;
 use constraint::Definition;
@@ -176,8 +177,10 @@ pub fn count(line: &[u8]) -> usize {
 }
 
 // The clock count: 3 where the line does not say it.
-pub fn clocks(line: &[u8]) -> u8 {
-    clock_of(number(line, b"clocks", 3))
+pub fn clocks(line: &[u8]) -> Clocks {
+    Clocks {
+        count: clock_of(number(line, b"clocks", 3)),
+    }
 }
 
 fn relation(n: usize) -> Relation {

@@ -5,7 +5,7 @@ use Prim.Native.Nat.{_/_}
 use borrow.Author.Tests.{not-true, not-false}
 use lib.ListN.{length, replicate}
 use lib.Seq.{sets}
-use Rattle.constraint.specs.Lists.{empty}
+use Rattle.constraint.specs.Lists.{empty, counting}
 use Rattle.constraint.specs.SamePlace.{samePlaceOf}
 use Rattle.lent.specs.Lent.{lent}
 use Rattle.monitor_c.specs.Calls.{written, done, answerLeft, placeLeft}
@@ -47,11 +47,11 @@ returns-6 c =
     ap (λ a. answerLeft done a) (put .put-answer .ensures)
     ∙ ap (λ v. answerLeft done (written (answerAnd v []) out)) (numbers .place-numbers .ensures)
     ∙ ap (λ a. placeLeft a out) (place .same-place-on .ensures .given)
-    ∙ ap (λ rs. placeLeft (samePlaceOf (clocks .clock-of .result) (lent (length ns / 6) rs) (first .configuration-of .result .words) (second .configuration-of2 .result .words)) out) (records .records-of .ensures)
-    ∙ ap (λ k. placeLeft (samePlaceOf k (lent (length ns / 6) (sets (replicate 66 empty) 0 (recordsOf ns))) (first .configuration-of .result .words) (second .configuration-of2 .result .words)) out) (clocks .clock-of .ensures)
-    ∙ ap (λ g. placeLeft (samePlaceOf (clockOf (s .clocks)) (lent (length ns / 6) (sets (replicate 66 empty) 0 (recordsOf ns))) (g .words) (second .configuration-of2 .result .words)) out) (first .configuration-of .ensures)
-    ∙ ap (λ g. placeLeft (samePlaceOf (clockOf (s .clocks)) (lent (length ns / 6) (sets (replicate 66 empty) 0 (recordsOf ns))) (configurationOf ws .words) (g .words)) out) (second .configuration-of2 .ensures)
-    ∙ ap (λ a. placeLeft a out) (place-lent (clockOf (s .clocks)) ns (configurationOf ws .words) (configurationOf vs .words))
+    ∙ ap (λ rs. placeLeft (samePlaceOf (counting (clocks .clock-of .result)) (lent (length ns / 6) rs) (first .configuration-of .result .words) (second .configuration-of2 .result .words)) out) (records .records-of .ensures)
+    ∙ ap (λ k. placeLeft (samePlaceOf (counting k) (lent (length ns / 6) (sets (replicate 66 empty) 0 (recordsOf ns))) (first .configuration-of .result .words) (second .configuration-of2 .result .words)) out) (clocks .clock-of .ensures)
+    ∙ ap (λ g. placeLeft (samePlaceOf (counting (clockOf (s .clocks))) (lent (length ns / 6) (sets (replicate 66 empty) 0 (recordsOf ns))) (g .words) (second .configuration-of2 .result .words)) out) (first .configuration-of .ensures)
+    ∙ ap (λ g. placeLeft (samePlaceOf (counting (clockOf (s .clocks))) (lent (length ns / 6) (sets (replicate 66 empty) 0 (recordsOf ns))) (configurationOf ws .words) (g .words)) out) (second .configuration-of2 .ensures)
+    ∙ ap (λ a. placeLeft a out) (place-lent (counting (clockOf (s .clocks))) ns (configurationOf ws .words) (configurationOf vs .words))
     ∙ place-done ns (s .clocks) ws vs out (e1 .if1 .left) (e2 .if2 .left) (e3 .if3 .left) (e4 .if4 .left) (sym (known .kinds-known .ensures) ∙ not-false _ (e5 .if5 .left))
 
 pub ccsl-same-place-spec : {M : Type 1} → statement M

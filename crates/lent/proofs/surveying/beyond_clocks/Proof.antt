@@ -10,6 +10,7 @@ beyond-clocks-spec =
     tie.close
     (tie.spec
     (λ c. search needs)
+    (λ c. search needs)
     (λ c. ticks-beyond (c .before .before .args .clocks) (c .before .before .args .ticks) (c .if2 .taken))
     (λ c. ticks-below (c .before .before .args .clocks) (c .before .before .args .ticks) (c .if2 .left))
     (λ c. ticks-room (c .before .args .clocks) (c .before .args .ticks) (c .before .fits .ticks .fits) (c .if1 .left)))

@@ -15,7 +15,7 @@ p59 c = sym (c .before .before .unfit-at .ensures) ∙ c .enum-told .given .1
 p60 : (c : tie.After-enum-told2) → outAt (c .before .before .before .before .before .before .before .args .survey) ≡ Nowhere
 p60 c = sym (c .before .before .out-at .ensures) ∙ c .enum-told2 .given .1
 
-p61 : (c : tie.After-enum-told3) → let s = c .before .before .before .before .before .before .before .before .before .before .args .survey in beyondClocks (s .clocks) (s .ticks) ≡ Nowhere
+p61 : (c : tie.After-enum-told3) → let s = c .before .before .before .before .before .before .before .before .before .before .before .args .survey in beyondClocks (s .clocks) (s .ticks) ≡ Nowhere
 p61 c = sym (c .before .before .beyond-clocks .ensures) ∙ c .enum-told3 .given .1
 
 returns : tie.Need-returns
@@ -34,7 +34,7 @@ returns-2 c =
 returns-3 : tie.Need-returns-3
 returns-3 c =
     let b = c .before .before .before .before in
-    let o = b .before in
+    let o = b .before .before in
     let u = o .before .before .before in
     let s = u .before .before .before .before .args .survey in
     ap stepTold (c .refused3 .ensures) ∙ sym (refused-61 s (p59 u) (p60 o) _ (sym (b .beyond-clocks .ensures) ∙ c .before .before .place3 .given .1))
@@ -42,7 +42,7 @@ returns-3 c =
 returns-4 : tie.Need-returns-4
 returns-4 c =
     let b = c .before .before .before in
-    let o = b .before .before .before in
+    let o = b .before .before .before .before in
     let u = o .before .before .before in
     let s = u .before .before .before .before .args .survey in
     sym (violated s (p59 u) (p60 o) (p61 b) _ (c .before .failing .given .1))
@@ -51,7 +51,7 @@ returns-5 : tie.Need-returns-5
 returns-5 c =
     let f = c .before .before .before .before in
     let b = f .before .before in
-    let o = b .before .before .before in
+    let o = b .before .before .before .before in
     let u = o .before .before .before in
     let s = u .before .before .before .before .args .survey in
     ap stepTold (c .refused4 .ensures) ∙ sym (refused-51 s (p59 u) (p60 o) (p61 b) (f .enum-told4 .given .1) _ (c .before .before .past .given .1))
@@ -61,7 +61,7 @@ returns-6 c =
     let l = c .before in
     let f = l .before .before in
     let b = f .before .before in
-    let o = b .before .before .before in
+    let o = b .before .before .before .before in
     let u = o .before .before .before in
     let s = u .before .before .before .before .args .survey in
     sym (accepted s (p59 u) (p60 o) (p61 b) (f .enum-told4 .given .1) (l .enum-told5 .given .1))

@@ -11,22 +11,22 @@ use Rattle.lent.proofs.surveying.visit.Statement.{statement}
 use Rattle.lent.proofs.surveying.visit.Tie as tie
 
 -- whether the record fits, and whether its word, read by its index, is in range
-fits : (c : tie.After-lowest) → let s = c .before .before .before .before .args in c .lowest .result ≡ lowest (s .survey .unfit) (recordFits (s .survey .clocks) (bits (s .survey .earlier)) (s .survey .place) (s .constraint)) (s .survey .place)
+fits : (c : tie.After-lowest) → let s = c .before .before .before .before .before .args in c .lowest .result ≡ lowest (s .survey .unfit) (recordFits (s .survey .clocks) (bits (s .survey .earlier)) (s .survey .place) (s .constraint)) (s .survey .place)
 fits c = c .lowest .ensures ∙ rw (c .before .record-fits .ensures) refl
 
-word-in-range : (c : tie.After-in-range) → let s = c .before .before .before .before .before .before .before .before .before .args in c .in-range .result ≡ inRange (s .constraint) (wordHere (s .survey))
+word-in-range : (c : tie.After-in-range) → let s = c .before .before .before .before .before .before .before .before .before .before .args in c .in-range .result ≡ inRange (s .constraint) (wordHere (s .survey))
 word-in-range c = c .in-range .ensures ∙ rw (c .before .before .index .ensures)
 
 returns : tie.Need-returns
 returns c =
-    let s = c .before .before .before .before .before .before .args in
+    let s = c .before .before .before .before .before .before .before .args in
     past-adds (s .survey) (s .constraint) (c .before .with-defined .ensures) (fits (c .before .before)) (c .if1 .taken)
 
 returns-2 : tie.Need-returns-2
 returns-2 c =
     let w = c .before .before in
     let e = w .before .before .before in
-    let s = e .before .before .before .before .before .before .args in
+    let s = e .before .before .before .before .before .before .before .args in
     out-adds (s .survey) (s .constraint) (e .before .with-defined .ensures) (fits (e .before .before)) (e .if1 .left) (word-in-range w) (c .before .lowest2 .ensures) (not-true (w .in-range .result) (c .if2 .taken))
 
 next-word-requires : tie.Need-next-word-requires
@@ -39,7 +39,7 @@ returns-3 c =
     let w = h .before .before .before in
     let i = w .before .before in
     let e = i .before in
-    let s = e .before .before .before .before .before .before .args in
+    let s = e .before .before .before .before .before .before .before .args in
     inside-adds (s .survey) (s .constraint) (e .before .with-defined .ensures) (fits (e .before .before)) (e .if1 .left) (word-in-range w) (h .before .before .lowest2 .ensures)
     (not-false (w .in-range .result) (h .before .if2 .left))
     (i .index .ensures)
