@@ -3,6 +3,7 @@ pub mod Demand3
 pub mod Edges
 pub mod Laws
 pub mod Letters
+pub mod LookLaws
 pub mod MillionLaws
 pub mod Named
 pub mod OneMore

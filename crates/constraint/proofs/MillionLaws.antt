@@ -1,11 +1,8 @@
 -- 51: a word in range is within its million, and where a record held from a word in range, its next word is in range exactly when it is within
--- its million. With the test of one word before that of its form. Assumes nothing.
+-- its million. Assumes nothing.
 use mathlib.Core.Path.{_≡_, refl, sym, _∙_}
 use mathlib.Core.Logic.{_⊎_, inl, inr}
 use mathlib.Core.Bool.{true, false≢true, and-true}
-use mathlib.Core.List.{[], _∷_}
-use denote.Enum.Declared.{tagOf}
-use types.Run.{OneOf, miss}
 use lib.Dec.{leb, leb·suc-suc}
 use lib.IntN.{ℤ, pos, negsuc, natAbs}
 use Rattle.constraint.specs.Meaning.{word, counterOf, counterRange, fits, holds, nextWord, inRange}
@@ -17,7 +14,6 @@ use Rattle.constraint.specs.declared.Counter.the-variants.{Fixed, Gap, L
 use Rattle.constraint.specs.declared.Parameter.{Parameter}
 use Rattle.constraint.specs.declared.Word.{Word}
 use Rattle.constraint.proofs.Booleans.{and-r}
-use Rattle.constraint.proofs.Counter as counter
 use Rattle.constraint.proofs.Laws.{Past, next-in-range}
 
 -- ---- one word
@@ -55,27 +51,6 @@ past-million Until n w p = absurd p
 lands : (k : Counter) (n : Parameter) (w : Word) → (fits (counterRange k n) w ≡ true) ⊎ Past k w → fits (counterRange k n) w ≡ withinMillion k w
 lands k n w (inl e) = e ∙ sym (in-million k n w e)
 lands k n w (inr p) = past-million k n w p
-
--- ---- the test of a word, before that of the form
-
-pub near-million : (k : Counter) (w : Word) → leb (natAbs (w .0)) 1_000_000 ≡ true → withinMillion k w ≡ true
-near-million Fixed w e = refl
-near-million Gap w e = e
-near-million Lead w e = e
-near-million Countdown w e = refl
-near-million StrictSample w e = refl
-near-million Sample w e = refl
-near-million Until w e = refl
-
--- counters but a gap and a lead; the numbers are the places of their variants
-pub no-million : (k : Counter) (w : Word) → OneOf (0 ∷ 3 ∷ 4 ∷ 5 ∷ 6 ∷ []) (tagOf counter.the-type k) → withinMillion k w ≡ true
-no-million Fixed w h = refl
-no-million Gap w h = absurd (miss (0 ∷ 3 ∷ 4 ∷ 5 ∷ 6 ∷ []) 1 tt h)
-no-million Lead w h = absurd (miss (0 ∷ 3 ∷ 4 ∷ 5 ∷ 6 ∷ []) 2 tt h)
-no-million Countdown w h = refl
-no-million StrictSample w h = refl
-no-million Sample w h = refl
-no-million Until w h = refl
 
 -- ---- one record, which held with a word in range
 pub range-is-million : (r : Constraint) (w : Word) (F : Ticks) → inRange r w ≡ true → holds r w F ≡ true → inRange r (nextWord r w F) ≡ inMillion r (nextWord r w F)

@@ -55,12 +55,18 @@ relation-fits StrictlyPrecedes n = refl
 relation-fits Precedes n = refl
 
 -- every definition but await; the numbers are the places of their variants
-pub two-operands : (k : Definition) (a b : ℕ) → OneOf (0 ∷ 1 ∷ 2 ∷ 3 ∷ 5 ∷ 6 ∷ 7 ∷ []) (tagOf declared.the-type k) → operands k a b ≡ a ∷ b ∷ []
-two-operands k a b h = go k (arity k) h
+paired-tag : (k : Definition) → OneOf (0 ∷ 1 ∷ 2 ∷ 3 ∷ 5 ∷ 6 ∷ 7 ∷ []) (tagOf declared.the-type k) → paired (arity k) ≡ true
+paired-tag k h = go k (arity k) h
   where
-    go : (k : Definition) → Arity k → OneOf (0 ∷ 1 ∷ 2 ∷ 3 ∷ 5 ∷ 6 ∷ 7 ∷ []) (tagOf declared.the-type k) → operands k a b ≡ a ∷ b ∷ []
-    go k (two f g) h = f ℕ a b
+    go : (k : Definition) (x : Arity k) → OneOf (0 ∷ 1 ∷ 2 ∷ 3 ∷ 5 ∷ 6 ∷ 7 ∷ []) (tagOf declared.the-type k) → paired x ≡ true
+    go k (two f g) h = refl
     go Await one h = absurd (miss (0 ∷ 1 ∷ 2 ∷ 3 ∷ 5 ∷ 6 ∷ 7 ∷ []) 4 tt h)
+
+pub two-operands : (k : Definition) (a b : ℕ) → OneOf (0 ∷ 1 ∷ 2 ∷ 3 ∷ 5 ∷ 6 ∷ 7 ∷ []) (tagOf declared.the-type k) → operands k a b ≡ a ∷ b ∷ []
+two-operands k a b h = paired-operands (arity k) a b (paired-tag k h)
+
+pub no-number : (k : Definition) (n : Parameter) → OneOf (0 ∷ 1 ∷ 2 ∷ 3 ∷ 5 ∷ 6 ∷ 7 ∷ []) (tagOf declared.the-type k) → parameterFits (definitionCounter k) n ≡ true
+no-number k n h = paired-fits (arity k) n (paired-tag k h)
 
 -- ---- which places of a form are named does not depend on what stands there
 

@@ -12,18 +12,15 @@ pub use place::broken_word;
 pub use place::counts_fit;
 pub use place::defines_again;
 pub use place::empty;
-pub use place::record_fits;
-pub use place::same_words;
+pub use place::fit;
+pub use place::same_word;
 pub use place::start_words;
 pub use place::with_defined;
 pub use rule::below;
-pub use rule::holds;
-pub use rule::in_million;
 pub use rule::in_range;
+pub use rule::look;
 pub use rule::magnitude;
-pub use rule::next_word;
 pub use rule::start;
-pub use rule::well_formed;
 pub use tick_set::ticks;
 pub use tick_set::with_tick;
 
@@ -108,6 +105,21 @@ pub enum Change {
     Down,
     Zero,
     One,
+}
+
+// What a step comes to for a record and its word: the word is out of range; the record fails; or it holds, and this is the word after the
+// step, past its million or within it.
+pub enum Seen {
+    Out,
+    Fails,
+    Leaves(Word),
+    Moves(Word),
+}
+
+// Whether a record fits the clock count and the records before it, and the clocks that it or they define.
+pub struct Fitted {
+    pub fits: bool,
+    pub defined: u32,
 }
 
 // The lowest place at which a list breaks a limit, if there is one.

@@ -7,18 +7,19 @@ use super::Kind;
 use super::Parameter;
 use super::Range;
 use super::Relation;
+use super::Seen;
 use super::Word;
 use super::tick_set::ticks;
 use limit::Place;
 ghost use mathlib.Core.Path.{_≡_};
-ghost use mathlib.Core.Bool.{true, cond};
+ghost use mathlib.Core.Bool.{true, cond, _&&_};
 ghost use mathlib.Core.List.{_∷_, []};
 ghost use Prim.Native.Nat.{_<_};
 ghost use lib.IntN.{natAbs};
 ghost use lib.Signed.{mag};
 ghost use Rattle.constraint.specs.Ticks.{bits};
+ghost use Rattle.constraint.specs.Look as l;
 ghost use Rattle.constraint.specs.Meaning as m;
-ghost use Rattle.constraint.specs.Million.{inMillion};
 
 // w > 0.
 fn above(w: Word) -> bool
@@ -78,20 +79,6 @@ fn due(k: Definition, w: Word, a: bool, b: bool) -> bool
         Definition::StrictlySampled => is(1, w) & b,
         Definition::Sampled => is(2, w) & (a & b) | is(1, w) & b,
         Definition::Upto => is(1, w) & (a & !b),
-    }
-}
-
-// Whether the record allows a step with the tick set f.
-pub fn holds(constraint: Constraint, w: Word, f: u32) -> bool
-    ensures { λ r. ⌜ r ≡ m.holds constraint w (bits f) ⌝ }
-{
-    let kind = constraint.kind;
-    let a = ticks(f, constraint.first);
-    let b = ticks(f, constraint.second);
-    match kind {
-        Kind::Empty => true,
-        Kind::Relates(k) => relates(k, w, a, b),
-        Kind::Defines(k) => ticks(f, constraint.defined) == due(k, w, a, b),
     }
 }
 
@@ -209,17 +196,6 @@ fn moved(change: Change, w: Word) -> Word
     }
 }
 
-// The record's word after a step that it allows, with the tick set f.
-pub fn next_word(constraint: Constraint, w: Word, f: u32) -> Word
-    requires { ⌜ m.inRange constraint w ≡ true ⌝ }
-    ensures { λ r. ⌜ r ≡ m.nextWord constraint w (bits f) ⌝ }
-{
-    let kind = constraint.kind;
-    let a = ticks(f, constraint.first);
-    let b = ticks(f, constraint.second);
-    moved(change(counter_of(kind), w, a, b), w)
-}
-
 // The start and the range of the record's word.
 fn word_range(constraint: Constraint) -> Range
     ensures { λ r. ⌜ r ≡ m.wordRange constraint ⌝ }
@@ -238,38 +214,147 @@ pub fn start(constraint: Constraint) -> Word
 }
 
 // Whether a word is in a range.
-fn fits(s: Range, w: Word) -> bool
-    ensures { λ r. ⌜ r ≡ m.fits s w ⌝ }
+fn inside(range: Range, w: Word) -> bool
+    ensures { λ r. ⌜ r ≡ m.fits range w ⌝ }
 {
-    (s.low <= w.0) & (w.0 <= s.high)
+    (range.low <= w.0) & (w.0 <= range.high)
 }
 
 // Whether a word is in the record's range.
 pub fn in_range(constraint: Constraint, w: Word) -> bool
     ensures { λ r. ⌜ r ≡ m.inRange constraint w ⌝ }
 {
-    fits(word_range(constraint), w)
+    inside(word_range(constraint), w)
 }
 
-// Whether the record's word is within its million, either way: of a gap and a lead; no other counter has a million to leave. The word is
-// looked at before the form.
-pub fn in_million(constraint: Constraint, w: Word) -> bool
-    ensures { λ r. ⌜ r ≡ inMillion constraint w ⌝ }
+// Whether a word is at most a million from 0.
+fn near(w: Word) -> bool
+    ensures { λ r. ⌜ r ≡ l.nearZero w ⌝ }
 {
-    if (-1000000 <= w.0) & (w.0 <= 1000000) {
-        return true;
+    (-1000000 <= w.0) & (w.0 <= 1000000)
+}
+
+// What a step comes to for a word with this range, by whether the record holds and how the word changes: of a counter that has no million to
+// leave.
+fn bounded(range: Range, holds: bool, change: Change, w: Word) -> Seen
+    requires { ⌜ l.Narrow range ⌝ }
+    ensures { λ r. ⌜ r ≡ l.seen (m.fits range w) holds true (m.moved change w) ⌝ }
+{
+    if !inside(range, w) {
+        return Seen::Out;
     }
+    if !holds {
+        return Seen::Fails;
+    }
+    Seen::Moves(moved(change, w))
+}
+
+// The same of a gap and a lead.
+fn counted(range: Range, holds: bool, change: Change, w: Word) -> Seen
+    requires { ⌜ l.Narrow range ⌝ }
+    ensures { λ r. ⌜ r ≡ l.seen (m.fits range w) holds (l.nearZero (m.moved change w)) (m.moved change w) ⌝ }
+{
+    if !inside(range, w) {
+        return Seen::Out;
+    }
+    if !holds {
+        return Seen::Fails;
+    }
+    let v = moved(change, w);
+    if !near(v) {
+        return Seen::Leaves(v);
+    }
+    Seen::Moves(v)
+}
+
+// A step of a relation, in which a and b tick or not.
+fn look_relation(k: Relation, n: Parameter, w: Word, a: bool, b: bool) -> Seen
+    ensures { λ r. ⌜ r ≡ l.weighed (m.relationCounter k) n (m.relates k w a b) a b w ⌝ }
+{
+    let holds = relates(k, w, a, b);
+    match k {
+        Relation::StrictlyPrecedes | Relation::Precedes => counted(
+            counter_range(Counter::Gap, n),
+            holds,
+            change(Counter::Gap, w, a, b),
+            w,
+        ),
+        _ => bounded(
+            counter_range(Counter::Fixed, n),
+            holds,
+            change(Counter::Fixed, w, a, b),
+            w,
+        ),
+    }
+}
+
+// A step of a definition, in which a, b and c tick or not.
+fn look_definition(k: Definition, n: Parameter, w: Word, a: bool, b: bool, c: bool) -> Seen
+    ensures { λ r. ⌜ r ≡ l.weighed (m.definitionCounter k) n (m._exactlyWhen_ c (m.due k w a b)) a b w ⌝ }
+{
+    let holds = c == due(k, w, a, b);
+    match k {
+        Definition::Lub | Definition::Glb => counted(
+            counter_range(Counter::Lead, n),
+            holds,
+            change(Counter::Lead, w, a, b),
+            w,
+        ),
+        Definition::Await => bounded(
+            counter_range(Counter::Countdown, n),
+            holds,
+            change(Counter::Countdown, w, a, b),
+            w,
+        ),
+        Definition::StrictlySampled => bounded(
+            counter_range(Counter::StrictSample, n),
+            holds,
+            change(Counter::StrictSample, w, a, b),
+            w,
+        ),
+        Definition::Sampled => bounded(
+            counter_range(Counter::Sample, n),
+            holds,
+            change(Counter::Sample, w, a, b),
+            w,
+        ),
+        Definition::Upto => bounded(
+            counter_range(Counter::Until, n),
+            holds,
+            change(Counter::Until, w, a, b),
+            w,
+        ),
+        _ => bounded(
+            counter_range(Counter::Fixed, n),
+            holds,
+            change(Counter::Fixed, w, a, b),
+            w,
+        ),
+    }
+}
+
+// What a step with the tick set f comes to for the record and its word w. The form is asked once.
+pub fn look(constraint: Constraint, w: Word, f: u32) -> Seen
+    ensures { λ r. ⌜ r ≡ l.looked constraint w (bits f) ⌝ }
+{
     let kind = constraint.kind;
-    let counter = counter_of(kind);
-    match counter {
-        Counter::Gap => false,
-        Counter::Lead => false,
-        _ => true,
+    let n = constraint.parameter;
+    let a = ticks(f, constraint.first);
+    let b = ticks(f, constraint.second);
+    match kind {
+        Kind::Empty => bounded(
+            counter_range(Counter::Fixed, n),
+            true,
+            change(Counter::Fixed, w, a, b),
+            w,
+        ),
+        Kind::Relates(k) => look_relation(k, n, w, a, b),
+        Kind::Defines(k) => look_definition(k, n, w, a, b, ticks(f, constraint.defined)),
     }
 }
 
 // Two clocks below the clock count, and not one twice.
-fn pair_fits(clocks: u8, x: u8, y: u8) -> bool
+pub fn pair_fits(clocks: u8, x: u8, y: u8) -> bool
     ensures { λ r. ⌜ r ≡ m.clocksFit clocks (x ∷ y ∷ []) ⌝ }
 {
     (x < clocks) & (y < clocks) & (x != y)
@@ -282,48 +367,19 @@ fn triple_fits(clocks: u8, x: u8, y: u8, z: u8) -> bool
     (x < clocks) & (y < clocks) & (z < clocks) & (x != y) & (x != z) & (y != z)
 }
 
-// The clocks of a definition: c, which it defines, and its operands.
-fn definition_fits(k: Definition, clocks: u8, a: u8, b: u8, c: u8) -> bool
-    ensures { λ r. ⌜ r ≡ m.clocksFit clocks (c ∷ m.operands k a b) ⌝ }
+// The number of an await is 1 to 1,000,000.
+fn number_fits(n: Parameter) -> bool
+    ensures { λ r. ⌜ r ≡ m.parameterFits Counter.Countdown n ⌝ }
+{
+    (1 <= n.0) & (n.0 <= 1000000)
+}
+
+// The clocks of a definition, c, which it defines, and its operands, and its number.
+pub fn definition_fits(k: Definition, clocks: u8, a: u8, b: u8, c: u8, n: Parameter) -> bool
+    ensures { λ r. ⌜ r ≡ (m.clocksFit clocks (c ∷ m.operands k a b) && m.parameterFits (m.definitionCounter k) n) ⌝ }
 {
     match k {
-        Definition::Await => pair_fits(clocks, c, a),
+        Definition::Await => pair_fits(clocks, c, a) & number_fits(n),
         _ => triple_fits(clocks, c, a, b),
-    }
-}
-
-// The number of an await is 1 to 1,000,000.
-fn parameter_fits(counter: Counter, n: Parameter) -> bool
-    ensures { λ r. ⌜ r ≡ m.parameterFits counter n ⌝ }
-{
-    match counter {
-        Counter::Fixed => true,
-        Counter::Gap => true,
-        Counter::Lead => true,
-        Counter::Countdown => (1 <= n.0) & (n.0 <= 1000000),
-        Counter::StrictSample => true,
-        Counter::Sample => true,
-        Counter::Until => true,
-    }
-}
-
-// Limit 59, as far as it looks at one constraint.
-pub fn well_formed(clocks: u8, constraint: Constraint) -> bool
-    ensures { λ r. ⌜ r ≡ m.wellFormed clocks constraint ⌝ }
-{
-    let kind = constraint.kind;
-    let n = constraint.parameter;
-    let number = parameter_fits(counter_of(kind), n);
-    match kind {
-        Kind::Empty => number,
-        Kind::Relates(_) => pair_fits(clocks, constraint.first, constraint.second) & number,
-        Kind::Defines(k) => definition_fits(
-            k,
-            clocks,
-            constraint.first,
-            constraint.second,
-            constraint.defined,
-        )
-            & number,
     }
 }

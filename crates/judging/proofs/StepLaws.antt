@@ -1,51 +1,39 @@
--- A turn of each loop of a step, what each outcome of `judged` is, and what every step leaves: the words in range, and how many there are.
--- Assumes nothing.
+-- A turn of the loop over the records of a step, what each outcome of `judged` is, and what every step leaves: the words in range, and how many
+-- there are. Assumes nothing.
 use mathlib.Core.Path.{_≡_, refl, sym, ap, _∙_}
 use mathlib.Core.Bool.{Bool, true, false, cond}
-use mathlib.Core.List.{List, [], _∷_}
-use Prim.Native.Nat.{ℕ, zero, suc, _+_, _<_, _≤_}
+use mathlib.Core.List.{List, [], _∷_, _++_}
+use Prim.Native.Nat.{ℕ, suc, _+_, _<_, _≤_}
 use native.Mathlib.Numerals.{add-one}
 use native.Mathlib.Omega.{arith}
-use lib.ListN.{length, drop, getD, set}
-use lib.Seq.{drop-cons}
+use denote.Enum.Declared.{tagOf}
+use types.Run.{OneOf}
+use lib.ListN.{length, take, drop, getD, set, length-set, take-append-drop}
+use lib.Seq.{drop-cons, drop-set-lt, take-suc-set, append-snoc}
 use Rattle.limit.specs.declared.Place.{Place}
-use Rattle.constraint.specs.Lists.{at, empty, slots, firstNot, firstOut, brokenWord}
+use Rattle.constraint.specs.Lists.{at, empty, slots, firstOut, brokenWord}
+use Rattle.constraint.specs.Look.{looked}
 use Rattle.constraint.specs.Meaning.{holds, nextWord, inRange}
-use Rattle.constraint.specs.Million.{firstPast}
+use Rattle.constraint.specs.Million.{inMillion, firstPast}
 use Rattle.constraint.specs.Ticks.{Ticks, none}
 use Rattle.constraint.specs.declared.Broken.{Broken}
 use Rattle.constraint.specs.declared.Broken.the-variants.{Nowhere, At}
 use Rattle.constraint.specs.declared.Configuration.{Configuration}
 use Rattle.constraint.specs.declared.Constraint.{Constraint}
+use Rattle.constraint.specs.declared.Seen.{Seen}
+use Rattle.constraint.specs.declared.Seen.the-variants.{Leaves, Moves}
 use Rattle.constraint.specs.declared.Word.{Word}
 use Rattle.constraint.proofs.Demand3.{nowhere}
 use Rattle.constraint.proofs.Laws.{holds-none, next-none}
+use Rattle.constraint.proofs.LookLaws.{seen-moves, seen-leaves, seen-fails}
 use Rattle.constraint.proofs.MillionLaws.{range-is-million}
-use Rattle.constraint.proofs.Slots.{getD-any, slots-cons, slots-done, slot-in-range}
+use Rattle.constraint.proofs.Seen as answer
+use Rattle.constraint.proofs.Slots.{getD-any, slots-cons, slots-done}
+use Rattle.judging.specs.Code.{firstOf, judgedFrom}
 use Rattle.judging.specs.Step.{firstFailing, moved, handedBack, judged}
 use Rattle.judging.specs.declared.Judged.{Judged}
 use Rattle.judging.specs.declared.Outcome.{Outcome}
 use Rattle.judging.specs.declared.Outcome.the-variants.{Held, Failed, PastMillion}
-
--- ---- a turn of the loop that looks for the first record that does not pass a test
-
-module _ (test : Constraint → Word → Bool) (n : ℕ) (rs : List Constraint) (ws : List Word) (i : ℕ) where
-  pub first-done : n ≤ i → firstNot test (i + 1) (drop i (slots n rs)) (drop i ws) ≡ Nowhere
-  first-done h = rw (slots-done n rs i h)
-
-  module _ (d : Constraint) (v : Word) (more : i < n) (slot : i < length rs) (inside : i < length ws) where
-    turn :
-        firstNot test (i + 1) (drop i (slots n rs)) (drop i ws)
-        ≡ cond (test (getD rs i d) (getD ws i v)) (firstNot test (i + 1 + 1) (drop (i + 1) (slots n rs)) (drop (i + 1) ws)) (at (i + 1))
-    turn = rw (slots-cons n rs i more, getD-any rs i empty d slot, drop-cons ws i v inside, add-one (i + 1), add-one i)
-
-    pub first-stop : test (getD rs i d) (getD ws i v) ≡ false → firstNot test (i + 1) (drop i (slots n rs)) (drop i ws) ≡ at (i + 1)
-    first-stop e = turn ∙ rw e
-
-    pub first-on :
-        test (getD rs i d) (getD ws i v) ≡ true
-        → firstNot test (i + 1) (drop i (slots n rs)) (drop i ws) ≡ firstNot test (i + 1 + 1) (drop (i + 1) (slots n rs)) (drop (i + 1) ws)
-    first-on e = turn ∙ rw e
 
 -- ---- the words after the step
 
@@ -54,32 +42,99 @@ length-moved F [] ws = refl
 length-moved F (r ∷ rs) [] = refl
 length-moved F (r ∷ rs) (w ∷ ws) = ap suc (length-moved F rs ws)
 
-not-yet-moved : (F : Ticks) (rs : List Constraint) (ws : List Word) (i : ℕ) (v : Word) → i < length ws → getD (moved F (slots i rs) ws) i v ≡ getD ws i v
-not-yet-moved F rs ws zero v h = refl
-not-yet-moved F rs [] (suc i) v h = absurd (omega arith)
-not-yet-moved F [] (w ∷ ws) (suc i) v h = not-yet-moved F [] ws i v (omega arith)
-not-yet-moved F (r ∷ rs) (w ∷ ws) (suc i) v h = not-yet-moved F rs ws i v (omega arith)
+-- ---- a turn of the loop over the records
 
-one-more-moved :
-    (F : Ticks) (rs : List Constraint) (ws : List Word) (i : ℕ) (d : Constraint) (v : Word)
-    → i < length rs → i < length ws → set (moved F (slots i rs) ws) i (nextWord (getD rs i d) (getD ws i v) F) ≡ moved F (slots (suc i) rs) ws
-one-more-moved F [] ws i d v slot inside = absurd (omega arith)
-one-more-moved F (r ∷ rs) [] i d v slot inside = absurd (omega arith)
-one-more-moved F (r ∷ rs) (w ∷ ws) zero d v slot inside = refl
-one-more-moved F (r ∷ rs) (w ∷ ws) (suc i) d v slot inside = ap (λ (l : List Word). nextWord r w F ∷ l) (one-more-moved F rs ws i d v (omega arith) (omega arith))
+-- a second place behind one that is known changes nothing
+first-stays : (past : Broken) (i : ℕ) (b : Broken) → firstOf (firstOf past (at i)) b ≡ firstOf past (at i)
+first-stays (At p) i b = refl
+first-stays Nowhere i b = refl
 
--- with the words of the first i records moved, that of slot i is still the one from before the step
-module _
-    (F : Ticks) (rs : List Constraint) (ws words : List Word) (i : ℕ) (d : Constraint) (v : Word)
-    (slot : i < length rs) (inside : i < length ws) (e : words ≡ moved F (slots i rs) ws) where
-  old-word : getD words i v ≡ getD ws i v
-  old-word = rw e (not-yet-moved F rs ws i v inside)
+no-more : (past : Broken) → firstOf past Nowhere ≡ past
+no-more (At p) = refl
+no-more Nowhere = refl
 
-  pub old-in-range : (n : ℕ) → brokenWord (slots n rs) ws ≡ Nowhere → i < n → inRange (getD rs i d) (getD words i v) ≡ true
-  old-in-range n b more = rw old-word (slot-in-range 1 n rs ws i d v b more slot inside)
+none-left : (F : Ticks) (c : Configuration) (i : ℕ) (past : Broken) (ws : List Word) → judgedFrom F c i past ws [] ≡ handedBack PastMillion past c (record { outcome = Held; configuration = record { words = ws } })
+unfolding judgedFrom
+none-left F c i past ws = rw (no-more past, take-append-drop i ws)
 
-  pub moved-turn : (w : Word) → w ≡ nextWord (getD rs i d) (getD words i v) F → set words i w ≡ moved F (slots (i + 1) rs) ws
-  moved-turn w q = rw (q, old-word, e, add-one i) (one-more-moved F rs ws i d v slot inside)
+module _ (F : Ticks) (c : Configuration) (i : ℕ) (ws : List Word) (room : i < length ws) (r : Constraint) (rs : List Constraint) (w : Word) (here : drop i ws ≡ w ∷ drop (suc i) ws) where
+  -- the records behind r, with the word x for r and the places b that left their million
+  abbrev behind : Word → Broken → Judged
+  behind x b =
+      handedBack Failed (firstFailing F (suc (suc i)) rs (drop (suc i) ws)) c
+      (handedBack PastMillion b c (record { outcome = Held; configuration = record { words = take i ws ++ (x ∷ moved F rs (drop (suc i) ws)) } }))
+
+  abbrev later : Broken
+  later = firstPast (suc (suc i)) rs (moved F rs (drop (suc i) ws))
+
+  held : (past : Broken) → holds r w F ≡ true → judgedFrom F c i past ws (r ∷ rs) ≡ behind (nextWord r w F) (firstOf past (cond (inMillion r (nextWord r w F)) later (at (suc i))))
+  unfolding judgedFrom
+  held past h = rw (here, h)
+
+  next : (past : Broken) (x : Word) → judgedFrom F c (suc i) past (set ws i x) rs ≡ behind x (firstOf past later)
+  unfolding judgedFrom
+  next past x = rw (drop-set-lt (suc i) ws i x (omega arith), take-suc-set ws i x room, append-snoc (take i ws) x (moved F rs (drop (suc i) ws)))
+
+  from-moves : (past : Broken) (x : Word) → looked r w F ≡ Moves x → judgedFrom F c (suc i) past (set ws i x) rs ≡ judgedFrom F c i past ws (r ∷ rs)
+  from-moves past x e = let t = seen-moves (inRange r w) _ _ _ x e in next past x ∙ sym (held past (t .0) ∙ rw (t .1, t .2))
+
+  from-leaves : (past : Broken) (x : Word) → looked r w F ≡ Leaves x → judgedFrom F c (suc i) (firstOf past (at (suc i))) (set ws i x) rs ≡ judgedFrom F c i past ws (r ∷ rs)
+  from-leaves past x e =
+      let t = seen-leaves (inRange r w) _ _ _ x e in
+      next (firstOf past (at (suc i))) x ∙ ap (behind x) (first-stays past (suc i) later) ∙ sym (held past (t .0) ∙ rw (t .1, t .2))
+
+  from-fails : (past : Broken) → holds r w F ≡ false → judgedFrom F c i past ws (r ∷ rs) ≡ record { outcome = Failed (record { 0 = suc i }); configuration = c }
+  unfolding judgedFrom
+  from-fails past h = rw (here, h)
+
+module _ (F : Ticks) (c : Configuration) (n : ℕ) (rs : List Constraint) where
+  -- at record i: the words to come are in range, and what is left of the step is the step
+  pub record Going (i : ℕ) (past : Broken) (ws : List Word) : Type 0 where
+    pub long : length ws ≡ length (c .words)
+    pub inside : firstOut (suc i) (drop i (slots n rs)) (drop i ws) ≡ Nowhere
+    pub same : judgedFrom F c i past ws (drop i (slots n rs)) ≡ judged F (slots n rs) c
+
+  pub judge-starts : brokenWord (slots n rs) (c .words) ≡ Nowhere → Going 0 Nowhere (c .words)
+  unfolding judgedFrom judged
+  judge-starts e = record { long = refl; inside = e; same = refl }
+
+  module _ (i : ℕ) (past : Broken) (ws : List Word) (g : Going i past ws) where
+    pub judge-done : n ≤ i → handedBack PastMillion past c (record { outcome = Held; configuration = record { words = ws } }) ≡ judged F (slots n rs) c
+    judge-done h = sym (none-left F c i past ws) ∙ (rw (slots-done n rs i h) at (g .same))
+
+    module _ (d : Constraint) (v : Word) (more : i < n) (slot : i < length rs) (room : i < length ws) where
+      abbrev r : Constraint
+      r = getD rs i d
+
+      abbrev w : Word
+      w = getD ws i v
+
+      record-here : drop i (slots n rs) ≡ r ∷ drop (suc i) (slots n rs)
+      record-here = slots-cons n rs i more ∙ rw (getD-any rs i empty d slot)
+
+      word-here : drop i ws ≡ w ∷ drop (suc i) ws
+      word-here = drop-cons ws i v room
+
+      fine : (inRange r w ≡ true) × (firstOut (suc (suc i)) (drop (suc i) (slots n rs)) (drop (suc i) ws) ≡ Nowhere)
+      fine = nowhere _ _ (suc i) (rw (record-here, word-here) at (g .inside))
+
+      same-here : judgedFrom F c i past ws (r ∷ drop (suc i) (slots n rs)) ≡ judged F (slots n rs) c
+      same-here = rw record-here at (g .same)
+
+      goes-on : (past′ : Broken) (x : Word) → judgedFrom F c (suc i) past′ (set ws i x) (drop (suc i) (slots n rs)) ≡ judgedFrom F c i past ws (r ∷ drop (suc i) (slots n rs)) → Going (i + 1) past′ (set ws i x)
+      goes-on past′ x e = rw (add-one i) (record { long = length-set ws i x ∙ g .long; inside = rw (drop-set-lt (suc i) ws i x (omega arith)) (fine .1); same = e ∙ same-here })
+
+      pub judge-on : (x : Word) → looked r w F ≡ Moves x → Going (i + 1) past (set ws i x)
+      judge-on x e = goes-on past x (from-moves F c i ws room r _ w word-here past x e)
+
+      pub judge-past : (x : Word) → looked r w F ≡ Leaves x → Going (i + 1) (firstOf past (at (i + 1))) (set ws i x)
+      judge-past x e = goes-on (firstOf past (at (i + 1))) x (rw (add-one i) (from-leaves F c i ws room r _ w word-here past x e))
+
+      pub judge-stop : {a : Seen} → a ≡ looked r w F → OneOf (0 ∷ 1 ∷ 2 ∷ []) (tagOf answer.the-type a) → OneOf (0 ∷ 1 ∷ 3 ∷ []) (tagOf answer.the-type a)
+          → record { outcome = Failed (record { 0 = i + 1 }); configuration = c } ≡ judged F (slots n rs) c
+      judge-stop e p q =
+          let h = seen-fails (holds r w F) _ _ (rw (e, fine .0) at p) (rw (e, fine .0) at q) in
+          rw (add-one i) (sym (from-fails F c i ws room r _ w word-here past h) ∙ same-here)
 
 -- ---- limit 60 and the million: where every record held from words in range, the moved words out of range are those past their million
 

@@ -1,24 +1,34 @@
--- Of the code's shape: what the loops of a step ask of a record and its word, and what a step starts from. Assumes nothing.
+-- Of the code's shape: what a step starts from, and what is left of it behind the first records. Assumes nothing.
 use mathlib.Core.Path.{_≡_}
-use mathlib.Core.Bool.{Bool}
-use mathlib.Core.List.{List}
-use Prim.Native.Nat.{ℕ, _≤_}
+use mathlib.Core.List.{List, _++_}
+use Prim.Native.Nat.{ℕ, suc, _≤_}
+use lib.ListN.{take, drop}
 use Rattle.constraint.specs.Lists.{slots, brokenWord}
-use Rattle.constraint.specs.Meaning.{holds}
-use Rattle.constraint.specs.Million.{inMillion}
-use Rattle.constraint.specs.Ticks.{bits}
-use Rattle.constraint.specs.declared.Broken.the-variants.{Nowhere}
+use Rattle.constraint.specs.Million.{firstPast}
+use Rattle.constraint.specs.Ticks.{Ticks}
+use Rattle.constraint.specs.declared.Broken.{Broken}
+use Rattle.constraint.specs.declared.Broken.the-variants.{Nowhere, At}
+use Rattle.constraint.specs.declared.Configuration.{Configuration}
 use Rattle.constraint.specs.declared.Constraint.{Constraint}
 use Rattle.constraint.specs.declared.Word.{Word}
-use Rattle.judging.specs.declared.Test.{Test}
-use Rattle.judging.specs.declared.Test.the-variants.{Holds, InMillion}
-
--- that it holds in a step with these ticks; that its word is within its million
-abbrev pub passes : Test → Constraint → Word → Bool
-passes (Holds f) r w = holds r w (bits f)
-passes InMillion r w = inMillion r w
+use Rattle.judging.specs.Step.{firstFailing, moved, handedBack}
+use Rattle.judging.specs.declared.Judged.{Judged}
+use Rattle.judging.specs.declared.Outcome.the-variants.{Held, Failed, PastMillion}
 
 -- there is room for the records, and limit 60 lets the words pass
 pub record Ready (records : List Constraint) (count : ℕ) (words : List Word) : Type 0 where
   pub room : count ≤ 64
   pub inside : brokenWord (slots count records) words ≡ Nowhere
+
+-- the place that is known, else another
+abbrev pub firstOf : Broken → Broken → Broken
+firstOf (At p) b = At p
+firstOf Nowhere b = b
+
+-- the step from the configuration c, where i records held and moved their words, past is the first of them whose word left its million, and rs
+-- are to come
+unfoldable pub judgedFrom : Ticks → Configuration → (i : ℕ) (past : Broken) (words : List Word) (rs : List Constraint) → Judged
+judgedFrom F c i past ws rs =
+    handedBack Failed (firstFailing F (suc i) rs (drop i ws)) c
+    (handedBack PastMillion (firstOf past (firstPast (suc i) rs (moved F rs (drop i ws)))) c
+    (record { outcome = Held; configuration = record { words = take i ws ++ moved F rs (drop i ws) } }))

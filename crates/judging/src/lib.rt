@@ -15,12 +15,6 @@ pub enum Outcome {
     PastMillion(Place),
 }
 
-// What the loops of a step ask of a record and its word: that it holds with a tick set; that its word is within its million.
-pub enum Test {
-    Holds(u32),
-    InMillion,
-}
-
 // A step as judged: the configuration after it where every constraint holds, else the one before it.
 pub struct Judged {
     pub outcome: Outcome,

@@ -1,0 +1,47 @@
+-- Of the code's shape: what a step comes to for one record and its word, and how a record fits those before it, each as one answer. Assumes
+-- nothing.
+use mathlib.Core.Bool.{Bool, true, false, not, _&&_}
+use Prim.Native.Nat.{ℕ, _<_}
+use lib.Dec.{leb}
+use lib.IntN.{natAbs}
+use lib.Signed.{mag}
+use Rattle.constraint.specs.Meaning.{change, moved, counterRange, fits, inRange, holds, nextWord, wellFormed, definedOf}
+use Rattle.constraint.specs.Million.{withinMillion, inMillion}
+use Rattle.constraint.specs.Ticks.{Ticks, any, bits, withTicks}
+use Rattle.constraint.specs.declared.Clocks.{Clocks}
+use Rattle.constraint.specs.declared.Constraint.{Constraint}
+use Rattle.constraint.specs.declared.Counter.{Counter}
+use Rattle.constraint.specs.declared.Fitted.{Fitted}
+use Rattle.constraint.specs.declared.Seen.{Seen}
+use Rattle.constraint.specs.declared.Seen.the-variants.{Out, Fails, Leaves, Moves}
+use Rattle.constraint.specs.declared.Parameter.{Parameter}
+use Rattle.constraint.specs.declared.Range.{Range}
+use Rattle.constraint.specs.declared.Word.{Word}
+
+-- by whether the word is in range, the record holds, and the word v after the step is within its million
+abbrev pub seen : (inside holds stays : Bool) → (v : Word) → Seen
+seen false h s v = Out
+seen true false s v = Fails
+seen true true false v = Leaves v
+seen true true true v = Moves v
+
+-- of a record
+abbrev pub looked : Constraint → Word → Ticks → Seen
+looked r w F = seen (inRange r w) (holds r w F) (inMillion r (nextWord r w F)) (nextWord r w F)
+
+-- of a counter, by whether the record holds and a and b tick
+abbrev pub weighed : Counter → Parameter → (holds a b : Bool) → Word → Seen
+weighed c n h a b w = seen (fits (counterRange c n) w) h (withinMillion c (moved (change c w a b) w)) (moved (change c w a b) w)
+
+-- at most a million from 0
+abbrev pub nearZero : Word → Bool
+nearZero w = leb (natAbs (w .0)) 1_000_000
+
+-- a range from which a word can be moved
+pub record Narrow (s : Range) : Type 0 where
+  pub low : mag (s .low) < 4294967296
+  pub high : mag (s .high) < 4294967296
+
+-- limit 59 of a record, but for the number of records; earlier has the clocks that those before it define
+abbrev pub fitted : Clocks → (earlier : ℕ) → Constraint → Fitted
+fitted clocks earlier r = record { fits = wellFormed (clocks .count) r && not (any (bits earlier) (definedOf r)); defined = withTicks earlier (definedOf r) }
