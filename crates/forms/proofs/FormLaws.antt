@@ -22,10 +22,10 @@ use Rattle.text.specs.declared.Number.the-variants.{TooLarge, Value}
 use Rattle.text.specs.declared.Span.{Span}
 use Rattle.grammar.specs.Grammar.{Parsed, noForm, parsed, onlyIf, Placed, Formed, Operands, token, kindAt, isKind, upToMillion, awaitNumber, sides, second, pair, awaitSide, expression, isSide, defining, atEnd, closed, lineForm}
 use Rattle.grammar.specs.Tokens.{is, tokenOf, lookUp}
-use Rattle.grammar.specs.declared.Token.{Token}
-use Rattle.grammar.specs.declared.Token.the-variants.{End, Other, Name, Digits, ClockDef, Await, Strictly, Form as FormToken}
+use Rattle.grammar.specs.declared.Token.the-variants.{Name, Digits, ClockDef, Await}
 use Rattle.grammar.proofs.GrammarLaws.{Each, each-only, each-then, await-some, pair-some, line-defines, line-relates, closed-some}
 use Rattle.grammar.proofs.KindLaws.{notAwait, kind-plain}
+use Rattle.grammar.proofs.TokenLaws.{told-apart}
 use Rattle.forms.specs.Forms.{Word, Words, isName, isDigits, Right, both, awaits, Form, relates, defines, IsRight, union, inter, lub, glb, await, strictly-sampled, sampled, upto, IsForm, coincides, excludes, sub-clock, strictly-precedes, precedes, clock-def}
 use Rattle.forms.proofs.Said.{said, none-left, First, first-is, first-told, some-first, kind-words, KindIs, kind-is, no-clock-def}
 use Rattle.forms.proofs.WordLaws.{kindWords, clock-def-word, await-word, digits-is, name-is}
@@ -67,16 +67,6 @@ module _ {O : Type 0} (IsOp : Words → O → Type 0) {a c : Words} {x y : O} (p
   right-row Upto n = upto p q
 
 -- ---- readers of operands
-name-no-await : (k : Token) → is Name k ≡ true → is Await k ≡ false
-name-no-await End e = absurd (false≢true e)
-name-no-await Other e = absurd (false≢true e)
-name-no-await Name e = refl
-name-no-await Digits e = absurd (false≢true e)
-name-no-await ClockDef e = absurd (false≢true e)
-name-no-await Await e = absurd (false≢true e)
-name-no-await Strictly e = absurd (false≢true e)
-name-no-await (FormToken k) e = absurd (false≢true e)
-
 -- what an operand may open with: it is one name, or its first word is neither a name nor `await`
 pub data Opens : Words → Type 0 where
   by-name : {n : Word} → isName n ≡ true → Opens (n ∷ [])
@@ -221,7 +211,7 @@ module _ (t : List ℕ) {S O : Type 0} (IsOp : Words → O → Type 0) (placed :
     -- ---- complete: a side is read with whatever words stand behind it
     module _ (s : S) (ws : List Span) where
       no-await : (a us : Words) → Opens a → said t ws ≡ a ++ us → is Await (token t ws) ≡ false
-      no-await a us (by-name {n = n} h) e = first-told t Bool (is Await) false ws n us e (name-no-await (tokenOf n) (name-is n ∙ h))
+      no-await a us (by-name {n = n} h) e = first-told t Bool (is Await) false ws n us e (told-apart Name Await (tokenOf n) (name-is n ∙ h))
       no-await a us (by-other {u = u} {us = vs} h k) e = first-told t Bool (is Await) false ws u (vs ++ us) e k
 
       pair-complete : (k : Kind) (a c : Words) (x y : O) (us : Words) → isKind k ≡ true → notAwait k ≡ true → IsOp a x → IsOp c y

@@ -1,18 +1,18 @@
 -- The names of a line that has a form are those of the form, in their order; so a clock that a line defines has a number from that line on.
 -- Assumes nothing.
-use mathlib.Core.Path.{_≡_, refl, ap, subst, _∙_}
-use mathlib.Core.Bool.{Bool, true, false, not, cond, _&&_}
+use mathlib.Core.Path.{_≡_, refl, sym, ap, subst, _∙_}
+use mathlib.Core.Bool.{Bool, true, false, cond}
 use mathlib.Core.List.{List, [], _∷_, _++_}
-use Prim.Native.Nat.{ℕ, _≤_}
-use native.Mathlib.Omega.{arith}
-use borrow.Author.Tests.{leb-true, lt-leb}
-use lib.Dec.{leb}
-use Rattle.constraint.proofs.Booleans.{and-l, and-r}
+use Prim.Native.Nat.{ℕ}
 use Rattle.text.specs.Ascii.{ascii}
-use Rattle.text.specs.Bytes.{letter, digit, allBytes, sameBytes}
-use Rattle.forms.specs.Forms.{Word, Words, Line, wordsOf, oneOf, formWords, nameShape, isName, isDigits, Right, both, awaits, Form, relates, defines, Operand, name, IsOperand, one-name, IsForm, coincides, excludes, sub-clock, strictly-precedes, precedes, clock-def, IsRight, union, inter, lub, glb, await, strictly-sampled, sampled, upto, HasForm}
+use Rattle.text.specs.Bytes.{allBytes, sameBytes}
+use Rattle.grammar.specs.Tokens.{tokenOf}
+use Rattle.grammar.specs.declared.Token.the-variants.{Name, Digits}
+use Rattle.grammar.proofs.TokenLaws.{told-apart}
+use Rattle.forms.specs.Forms.{Word, Words, Line, wordsOf, oneOf, nameShape, isName, isDigits, Right, both, awaits, Form, relates, defines, Operand, name, IsOperand, one-name, IsForm, coincides, excludes, sub-clock, strictly-precedes, precedes, clock-def, IsRight, union, inter, lub, glb, await, strictly-sampled, sampled, upto, HasForm}
 use Rattle.forms.specs.Lines.{namesIn, withNames, withLines, clockNames, Some, here, later, DefinesClock, clockOf, recordOf}
 use Rattle.forms.proofs.ClockNames.{Keeps, AllOf, names-have, lines-keep, names-more}
+use Rattle.forms.proofs.WordLaws.{digits-is, name-is}
 
 abbrev pub called : Operand → Word
 called (name w) = w
@@ -48,17 +48,8 @@ name-first : (c : Word) (ws : Words) → isName c ≡ true → namesIn (c ∷ ws
 unfolding namesIn
 name-first c ws e = rw e
 
-no-letter : (d : ℕ) → digit d ≡ true → letter d ≡ false
-no-letter d e =
-    let h : d ≤ 57 = leb-true d 57 (and-r (leb 48 d) (leb d 57) e) in
-    rw (lt-leb 65 d (omega arith), lt-leb 97 d (omega arith))
-
 digits-no-name : (n : Word) → isDigits n ≡ true → isName n ≡ false
-unfolding isDigits nameShape allBytes
-digits-no-name [] e = refl
-digits-no-name (d ∷ ds) e =
-    let q : nameShape (d ∷ ds) ≡ false = rw (no-letter d (and-l (digit d) (allBytes digit ds) e)) in
-    ap (λ x. x && not (oneOf formWords (d ∷ ds))) q
+digits-no-name n d = sym (name-is n) ∙ told-apart Digits Name (tokenOf n) (digits-is n ∙ d)
 
 side-names : {ws : Words} {r : Right Operand} → IsRight IsOperand ws r → namesIn ws ≡ sideNames r
 unfolding namesIn nameShape oneOf allBytes sameBytes

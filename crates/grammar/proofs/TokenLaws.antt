@@ -4,14 +4,19 @@ use mathlib.Core.Bool.{Bool, true, false, cond, _&&_}
 use mathlib.Core.List.{List, [], _∷_}
 use Prim.Native.Nat.{ℕ}
 use native.Mathlib.Omega.{arith}
+use borrow.Author.Tests.{eqb-true}
 use lib.ListN.{length, getD}
 use Rattle.constraint.proofs.Booleans.{and-l, and-r}
 use Rattle.text.specs.Bytes.{letter, digit, inClass, allBytes, sameBytes}
 use Rattle.text.specs.declared.Class.the-variants.{NameByte}
 use Rattle.text.proofs.Bytes.{same-equal}
-use Rattle.grammar.specs.Tokens.{Spelled, _says_, shapeOf, lookUp}
+use Rattle.grammar.specs.Tokens.{tag, is, Spelled, _says_, shapeOf, lookUp}
 use Rattle.grammar.specs.declared.Token.{Token}
 use Rattle.grammar.specs.declared.Token.the-variants.{End, Other, Name, Digits}
+
+-- a word that is of one kind is of no other
+pub told-apart : (j k x : Token) → is j x ≡ true → is k x ≡ is k j
+told-apart j k x e = rw (← eqb-true (tag j) (tag x) e)
 
 pub shape-none : (w : List ℕ) → length w ≡ 0 → End ≡ shapeOf w
 unfolding shapeOf

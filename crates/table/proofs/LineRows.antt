@@ -22,12 +22,11 @@ use Rattle.forms.proofs.SomeLaws.{or-true, anyOf, some-row}
 use Rattle.forms.proofs.Said.{said}
 use Rattle.forms.proofs.WordLaws.{digits-is, name-is}
 use Rattle.grammar.specs.Grammar.{awaitNumber}
-use Rattle.grammar.specs.Tokens.{tag, is, tokenOf, lookUp}
-use Rattle.grammar.specs.declared.Token.{Token}
-use Rattle.grammar.specs.declared.Token.the-variants.{Digits, Await}
+use Rattle.grammar.specs.Tokens.{is, tokenOf, lookUp}
+use Rattle.grammar.specs.declared.Token.the-variants.{Name, Digits, Await}
+use Rattle.grammar.proofs.TokenLaws.{told-apart}
 use Rattle.table.specs.Reader.{anyWord, sameAs, longName, badNumber, twice}
 use Rattle.forms.proofs.ClockNames.{same-turned, has, found}
-use Rattle.table.proofs.ReaderLaws.{name-no-await}
 
 -- ---- 11
 bytes-any : (p : ℕ → Bool) (l : List ℕ) → not (allBytes p l) ≡ anyOf (λ b. not (p b)) l
@@ -65,12 +64,9 @@ outside-row n = go (leb n 1_000_000) refl (eqb n 0) refl
         (λ d. absurd (true≢false (sym d ∙ e)), λ f. absurd (f (omega arith) h))
     go false q y e = let h : 1_000_000 < n = leb-false n 1_000_000 q in (λ _ j k. omega arith, λ f. refl)
 
-digits-no-await : (k : Token) → is Digits k ≡ true → is Await k ≡ false
-digits-no-await k e = rw (← eqb-true 3 (tag k) e)
-
 name-bad : (n : Word) (ws : Words) → isName n ≡ true → badIn (n ∷ ws) ≡ badIn ws
 unfolding badIn
-name-bad n ws e = rw (name-no-await (tokenOf n) (name-is n ∙ e))
+name-bad n ws e = rw (told-apart Name Await (tokenOf n) (name-is n ∙ e))
 
 last-bad : {a : Words} {x : Operand} → IsOperand a x → badIn a ≡ false
 unfolding badIn
@@ -86,7 +82,7 @@ side-bad c (union p q) = pair-bad (ascii "clockUnion" ∷ []) refl p q
 side-bad c (inter p q) = pair-bad (ascii "clockInter" ∷ []) refl p q
 side-bad c (lub p q) = pair-bad (ascii "lub" ∷ []) refl p q
 side-bad c (glb p q) = pair-bad (ascii "glb" ∷ []) refl p q
-side-bad c (await {n = n} d p) = rw (digits-no-await (tokenOf n) (digits-is n ∙ d), await-value n d, last-bad p)
+side-bad c (await {n = n} d p) = rw (told-apart Digits Await (tokenOf n) (digits-is n ∙ d), await-value n d, last-bad p)
 side-bad c (strictly-sampled p q) = pair-bad (ascii "strictly" ∷ ascii "sampled" ∷ []) refl p q
 side-bad c (sampled p q) = pair-bad (ascii "sampled" ∷ []) refl p q
 side-bad c (upto p q) = pair-bad (ascii "upto" ∷ []) refl p q

@@ -6,7 +6,7 @@ use mathlib.Core.List.{List, [], _∷_}
 use Prim.Native.Nat.{ℕ, _+_, _≤_, _<_}
 use native.Mathlib.Decide.{decLt}
 use native.Mathlib.Omega.{arith}
-use borrow.Author.Tests.{eqb-true, le-leb, lt-leb, le-ltb, lt-ltb}
+use borrow.Author.Tests.{le-leb, lt-leb, le-ltb, lt-ltb}
 use lib.Dec.{leb}
 use lib.ListN.{length, take, drop}
 use Rattle.limit.specs.Checked.{Checked, passed, stopped, andThen}
@@ -23,12 +23,9 @@ use Rattle.text.specs.declared.Span.{Span}
 use Rattle.text.proofs.Runs.{piece-more, piece-last}
 use Rattle.grammar.specs.Building.{start, withConstraint, finish}
 use Rattle.grammar.specs.Grammar.{Parsed, noForm, parsed, Formed, lineWords}
-use Rattle.grammar.specs.Tokens.{tag, is}
 use Rattle.grammar.specs.declared.Builder.{Builder}
 use Rattle.grammar.specs.declared.Names.{Names}
 use Rattle.grammar.specs.declared.Table.{Table}
-use Rattle.grammar.specs.declared.Token.{Token}
-use Rattle.grammar.specs.declared.Token.the-variants.{Name, Await}
 use Rattle.table.specs.Answers.{flawsOf, wordFlaws, either}
 use Rattle.table.specs.Reader.{anyWord, longName, badNumber, twice, addLine, formStep, wordsStep, filledStep, blank, lineStep, tellOf, readLines, mostBytes, readTable}
 use Rattle.table.specs.declared.Flaws.{Flaws}
@@ -76,10 +73,6 @@ module _ (t : List ℕ) (f : Flaws) (ws : List Span) where
 
     pub flaws-on : either f (flawsOf t ws) ≡ either (either f (wordFlaws t w us)) (flawsOf t us)
     flaws-on = ap (either f) flaws-turn ∙ either-assoc f (wordFlaws t w us) (flawsOf t us)
-
--- a name is no await
-pub name-no-await : (k : Token) → is Name k ≡ true → is Await k ≡ false
-name-no-await k e = rw (← eqb-true 2 (tag k) e)
 
 -- ---- the checks of a line
 module _ (n : ℕ) (b : Builder) (ns : Names) (r : Constraint) where

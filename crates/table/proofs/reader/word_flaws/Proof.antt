@@ -5,7 +5,7 @@ use denote.Ref.{now}
 use Rattle.text.specs.Split.{bytesOf}
 use Rattle.grammar.specs.Tokens.{is, tokenOf}
 use Rattle.grammar.specs.declared.Token.the-variants.{Name, Await}
-use Rattle.table.proofs.ReaderLaws.{name-no-await}
+use Rattle.grammar.proofs.TokenLaws.{told-apart}
 use borrow.Author.Needs.{needs}
 use Rattle.table.proofs.reader.word_flaws.Statement.{statement}
 use Rattle.table.proofs.reader.word_flaws.Tie as tie
@@ -21,7 +21,7 @@ returns : tie.Need-returns
 returns c =
     let d = c .before .before in
     let n = named (d .before) _ (d .if1 .taken) in
-    rw (n, name-no-await _ n, c .stands-again .ensures, c .before .part .ensures)
+    rw (n, told-apart Name Await _ n, c .stands-again .ensures, c .before .part .ensures)
 
 returns-2 : tie.Need-returns-2
 returns-2 c =
