@@ -1,5 +1,5 @@
--- When a run is refused, and with which number and place: document 01, "Where each refusal is checked". Of the calls on records the crates
--- `judging` and `constraint` say it. Assumes nothing.
+-- When a run is refused, and with which number and place: document 01, "Where each refusal is checked". Of a table the crate `forms` says it, of
+-- the calls on records `judging` and `constraint`. Assumes nothing.
 use mathlib.Core.Path.{_≡_}
 use mathlib.Core.List.{List, _∷_, _++_}
 use Prim.Native.Nat.{ℕ}
