@@ -13,13 +13,12 @@ use Rattle.limit.specs.Limit.{numberOf}
 use Rattle.limit.proofs.Numbers.{refusals-differ}
 use Rattle.constraint.specs.Lists.{at, empty, recordFits, firstUnfit, countsFit, brokenRecord, firstOut}
 use Rattle.constraint.specs.Meaning.{definedOf, wellFormed, inRange}
-use Rattle.constraint.specs.SamePlace.{Answer, answer, AnswerDetermines, same, different, samePlaceOf, sameWord, sameWords, accepts, AllAlike, SomeApart, recordAt, wordAt, Demand3, SamePlaceMeant, Answered}
+use Rattle.constraint.specs.SamePlace.{Answer, AnswerDetermines, same, different, samePlaceOf, sameWord, sameWords, accepts, AllAlike, SomeApart, recordAt, wordAt, SamePlaceMeant, Answered}
 use Rattle.constraint.specs.Ticks.{Ticks, none, addingAll}
 use Rattle.constraint.specs.declared.Broken.{Broken}
 use Rattle.constraint.specs.declared.Broken.the-variants.{Nowhere}
 use Rattle.constraint.specs.declared.Clocks.{Clocks}
 use Rattle.constraint.specs.declared.Constraint.{Constraint}
-use Rattle.constraint.specs.declared.SamePlace.{SamePlace}
 use Rattle.constraint.specs.declared.SamePlace.the-variants.{Refused, Same, Different}
 use Rattle.constraint.specs.declared.Word.{Word}
 use Rattle.constraint.proofs.Booleans.{and-l, and-r, never}

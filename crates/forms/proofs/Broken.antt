@@ -7,6 +7,7 @@ use native.Mathlib.Omega.{arith}
 use lib.ListN.{length}
 use Rattle.limit.specs.Limit.{numberOf}
 use Rattle.limit.specs.declared.Limit.{Limit}
+use Rattle.limit.specs.declared.Limit.the-variants.{LineByte, TableConstraints}
 use Rattle.limit.proofs.Numbers.{numbers-differ}
 use Rattle.forms.specs.Forms.{Line, linesOf}
 use Rattle.forms.specs.Lines.{Breaks, byte-outside, no-form, long-name, await-number, name-twice, defined-above, many-clocks, many-constraints, BreaksNothing, NothingBroken, TableRefuses, too-long, by-line, TableReads}
@@ -16,7 +17,7 @@ abbrev pub Clear : List Line → Line → ℕ → Type 0
 Clear above l n = (k : Limit) → numberOf k < n → Breaks above l k → ⊥
 
 module _ (above : List Line) (l : Line) where
-  line-limits : {m : Limit} → Breaks above l m → (11 ≤ numberOf m) × (numberOf m ≤ 18)
+  line-limits : {m : Limit} → Breaks above l m → (numberOf LineByte ≤ numberOf m) × (numberOf m ≤ numberOf TableConstraints)
   line-limits (byte-outside s) = omega arith
   line-limits (no-form f n) = omega arith
   line-limits (long-name s) = omega arith
@@ -26,7 +27,7 @@ module _ (above : List Line) (l : Line) where
   line-limits (many-clocks f h) = omega arith
   line-limits (many-constraints f h) = omega arith
 
-  pub clear-first : Clear above l 11
+  pub clear-first : Clear above l (numberOf LineByte)
   clear-first k h b = omega (arith, line-limits b)
 
   pub clear-next : (m : Limit) → Clear above l (numberOf m) → (Breaks above l m → ⊥) → Clear above l (suc (numberOf m))
@@ -36,7 +37,7 @@ module _ (above : List Line) (l : Line) where
       go (yes j) = c k j b
       go (no j) = f (subst (Breaks above l) (numbers-differ k m (omega arith)) b)
 
-  pub clear-last : Clear above l 19 → BreaksNothing above l
+  pub clear-last : Clear above l (suc (numberOf TableConstraints)) → BreaksNothing above l
   clear-last c m b = c m (omega (arith, line-limits b)) b
 
   one-limit : (m k : Limit) → Breaks above l m → Clear above l (numberOf m) → Breaks above l k → Clear above l (numberOf k) → numberOf m ≡ numberOf k

@@ -1,7 +1,7 @@
 -- What the lines of a table break, and what they say, apart from any reader: document 01, the first two rows of "Where each refusal is
 -- checked", 11 to 18 each a row over the text alone; and the records of a table that breaks nothing. Assumes nothing.
 use mathlib.Core.Path.{_≡_, refl}
-use mathlib.Core.Bool.{Bool, true, false, cond, _&&_}
+use mathlib.Core.Bool.{false, cond, _&&_}
 use mathlib.Core.List.{List, [], _∷_, _++_}
 use Prim.Native.Nat.{ℕ, suc, _+_, _≤_, _<_}
 use lib.Dec.{leb}
@@ -13,7 +13,7 @@ use Rattle.constraint.specs.declared.Constraint.{Constraint}
 use Rattle.constraint.specs.declared.Definition.the-variants.{Await}
 use Rattle.constraint.specs.declared.Kind.the-variants.{Relates, Defines}
 use Rattle.text.specs.Ascii.{ascii}
-use Rattle.text.specs.Bytes.{letter, digit, allBytes, sameBytes}
+use Rattle.text.specs.Bytes.{allBytes, sameBytes}
 use Rattle.forms.specs.Forms.{Word, Words, Line, grow, parts, nonempty, linesOf, wordsOf, oneOf, nameShape, isName, Right, both, awaits, Form, relates, defines, Operand, name, HasForm}
 
 -- ---- what is counted of a line: its names, and its constraints

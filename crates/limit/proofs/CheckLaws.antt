@@ -1,5 +1,5 @@
 -- A check that is broken, and one that is passed. Assumes nothing.
-use mathlib.Core.Path.{_≡_, refl}
+use mathlib.Core.Path.{_≡_}
 use mathlib.Core.Bool.{Bool, true, false}
 use Prim.Native.Nat.{ℕ}
 use Rattle.limit.specs.Checked.{Checked, passed, stopped, refuseIf, andThen, checked}

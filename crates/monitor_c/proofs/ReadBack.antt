@@ -1,16 +1,15 @@
 -- What `ccsl_read_table` writes of records, `ccsl_step` and `ccsl_same_place` read as the same records. Assumes nothing.
-use mathlib.Core.Path.{_≡_, refl, ap, _∙_}
+use mathlib.Core.Path.{_≡_, refl}
 use mathlib.Core.Bool.{true}
-use mathlib.Core.List.{List, [], _∷_}
+use mathlib.Core.List.{[], _∷_}
 use Prim.Native.Nat.{ℕ, _≤_}
 use borrow.Author.Tests.{le-leb}
 use lib.Dec.{leb}
-use Rattle.constraint.specs.declared.Constraint.{Constraint}
 use Rattle.constraint.specs.declared.Definition.the-variants.{Union, Inter, Lub, Glb, Await, StrictlySampled, Sampled, Upto}
 use Rattle.constraint.specs.declared.Kind.{Kind}
 use Rattle.constraint.specs.declared.Kind.the-variants.{Empty, Relates, Defines}
 use Rattle.constraint.specs.declared.Relation.the-variants.{Coincides, Excludes, SubClock, StrictlyPrecedes, Precedes}
-use Rattle.monitor_c.specs.Numbers.{kindOf, kindNumber, atMost, rows, recordNumbers, recordsOf, kindsKnown, Fitting, AllFitting, none, more, ReadBack}
+use Rattle.monitor_c.specs.Numbers.{kindOf, kindNumber, atMost, rows, none, more, ReadBack}
 
 -- the number of a kind is known, and is the number of that kind
 known : (k : Kind) → (kindOf (kindNumber k) ≡ k) × (leb (kindNumber k) 13 ≡ true)

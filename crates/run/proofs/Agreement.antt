@@ -2,6 +2,7 @@
 -- ticks alone are. Assumes nothing.
 use Prim.Native.Nat.{ℕ}
 use Rattle.table.proofs.Passes.{every-table-passes}
+use Rattle.table.proofs.TableVerdict.{read-exactly}
 use Rattle.run.specs.Agreement.{RunIsSingleSteps, SameRuns, TwoRecordings}
 use Rattle.run.specs.Judgement.{timed, untimed}
 use Rattle.run.specs.Run.{recordsOf, startOf, tableOf}
@@ -9,12 +10,13 @@ use Rattle.run.proofs.Demands.{run-read, demand-2}
 use Rattle.run.proofs.SameExercise.{same-exercise}
 
 pub run-is-single-steps : RunIsSingleSteps
-run-is-single-steps t r e =
-    let j = demand-2 t r e in
+run-is-single-steps t r h =
+    let j = demand-2 t r h .1 in
     record { accepted = j .accepted; left = j .left; steps = j .steps; count = j .count; configuration = j .words; single = j .single }
 
 same-runs : (stamp : ℕ → ℕ) → SameRuns stamp
-same-runs stamp t r q e er eq same =
+same-runs stamp t r q h er eq same =
+    let e = read-exactly t .1 h in
     rw (run-read t r e, run-read t q e, er, eq) (same-exercise stamp (recordsOf (tableOf t)) (tableOf t .count) (startOf (tableOf t)) _ _ (every-table-passes t e .words) same)
 
 pub two-recordings : TwoRecordings

@@ -10,12 +10,12 @@ use Rattle.constraint.proofs.Demand3.{demand-3}
 use Rattle.constraint.proofs.PlaceRefusals.{same-place-refused}
 use Rattle.table.specs.Reader as table
 use Rattle.table.proofs.Passes.{every-table-passes}
-use Rattle.table.proofs.TableVerdict.{refused-exactly}
+use Rattle.table.proofs.TableVerdict.{refused-exactly, read-exactly, records-are-forms}
 use Rattle.recording.specs.Body.{Ending, ended, refusedAt}
 use Rattle.recording.specs.declared.Step.{Step}
 use Rattle.judging.proofs.AnswerLaws.{every-step-answers}
 use Rattle.run.specs.Demands.{Demand1, Demand2, Demand3}
-use Rattle.run.specs.Judgement.{Accepted as AllAccepted, Ends, at-end, fails, past, after}
+use Rattle.run.specs.Judgement.{Accepted as AllAccepted, Judges, Ends, at-end, fails, past, after}
 use Rattle.run.specs.Refusals.{RunRefuses, by-table, by-reading, by-million}
 use Rattle.run.specs.Run.{Said, SaidDetermines, accepted, violated, refused, endingSaid, ran, runTable, withTable, runOf, zeros, tableOf, readingBy}
 use Rattle.run.specs.declared.Verdict.the-variants.{Accepted, Violated, Refused}
@@ -39,8 +39,8 @@ module _ (t r : List ℕ) where
 
 -- ---- demand 2
 
-pub demand-2 : Demand2
-demand-2 t r e =
+judges : (t r : List ℕ) → table.readTable t .said ≡ table.read → Judges (tableOf t) (readingBy t r) (runOf t r)
+judges t r e =
     let x = split (tableOf t .records) (readingBy t r .ending) (readingBy t r .steps) in
     rw (run-split t r e x) (record {
       accepted = x .accepted;
@@ -54,12 +54,15 @@ demand-2 t r e =
       single = single-steps t r e (x .accepted) (x .left) (readingBy t r .ending) (x .said) (x .held) (x .place) (x .ends);
     })
 
+pub demand-2 : Demand2
+demand-2 t r h = let e = read-exactly t .1 h in (records-are-forms t e, judges t r e)
+
 -- ---- demand 1
 
 when-refused : (t r : List ℕ) {n p : ℕ} → RunRefuses t r n p → runOf t r .said ≡ refused n p
 when-refused t r {n} {p} (by-table e) = rw (run-refused t r n p (refused-exactly t n p .1 e))
-when-refused t r (by-reading e q h) = rw (run-split t r e (record { accepted = readingBy t r .steps; left = []; said = endingSaid (readingBy t r .ending); place = sym (append-nil _); held = h; ends = at-end })) (ap endingSaid q)
-when-refused t r (by-million before later s c e q h hold f) = rw (run-split t r e (record { accepted = before; left = s ∷ later; said = _; place = q; held = h; ends = past hold f }))
+when-refused t r (by-reading e q h) = rw (run-split t r (read-exactly t .1 e) (record { accepted = readingBy t r .steps; left = []; said = endingSaid (readingBy t r .ending); place = sym (append-nil _); held = h; ends = at-end })) (ap endingSaid q)
+when-refused t r (by-million before later s c e q h hold f) = rw (run-split t r (read-exactly t .1 e) (record { accepted = before; left = s ∷ later; said = _; place = q; held = h; ends = past hold f }))
 
 -- of a verdict that is a refusal: the run is refused so
 abbrev Refusing : (t r : List ℕ) → Said → Type 0
@@ -71,24 +74,24 @@ module _ (t r : List ℕ) where
   module _ (e : table.readTable t .said ≡ table.read) where
     ending-refuses : AllAccepted (tableOf t .records) (readingBy t r .steps) → (x : Ending) → readingBy t r .ending ≡ x → Refusing t r (endingSaid x)
     ending-refuses h ended q = tt
-    ending-refuses h (refusedAt l p) q = by-reading e q h
+    ending-refuses h (refusedAt l p) q = by-reading (read-exactly t .0 e) q h
 
     end-refuses : {ss left : List Step} {said : Said} → readingBy t r .steps ≡ ss ++ left → AllAccepted (tableOf t .records) ss → Ends (tableOf t .records) (readingBy t r .ending) ss left said → Refusing t r said
     end-refuses place h at-end = ending-refuses (rw (place, append-nil) h) (readingBy t r .ending) refl
     end-refuses place h (fails f) = tt
-    end-refuses place h (past hold f) = by-million _ _ _ _ e place h hold f
+    end-refuses place h (past hold f) = by-million _ _ _ _ (read-exactly t .0 e) place h hold f
 
   run-refuses : Refusing t r (runOf t r .said)
   run-refuses = go (table.readTable t .said) refl
     where
       go : (x : table.Said) → table.readTable t .said ≡ x → Refusing t r (runOf t r .said)
-      go table.read e = let j = demand-2 t r e in end-refuses e (j .steps) (j .held) (j .ends)
+      go table.read e = let j = judges t r e in end-refuses e (j .steps) (j .held) (j .ends)
       go (table.refused n p) e = rw (run-refused t r n p e) (by-table (refused-exactly t n p .0 e))
 
 pub demand-1 : Demand1
 demand-1 = record {
   run-refused = λ t r n p. (λ e. rw e at (run-refuses t r), when-refused t r);
-  table-refused = run-refused;
+  table-refused = λ t r n p e. run-refused t r n p (refused-exactly t n p .1 e);
   step-answers = every-step-answers;
   same-place-refused = same-place-refused;
 }

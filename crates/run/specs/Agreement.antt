@@ -5,7 +5,7 @@ use mathlib.Core.List.{List, _++_}
 use Prim.Native.Nat.{ℕ}
 use lib.ListN.{length}
 use Rattle.grammar.specs.declared.Table.{Table}
-use Rattle.table.specs.Reader as table
+use Rattle.forms.specs.Lines.{TableReads}
 use Rattle.recording.specs.Body.{ended, Reading}
 use Rattle.recording.specs.declared.Step.{Step}
 use Rattle.run.specs.Judgement.{after, SingleSteps, ticking, timed, untimed, SameExercise}
@@ -21,14 +21,14 @@ pub record RunSteps (b : Table) (g : Reading) (told : Told) : Type 0 where
   pub single : SingleSteps b accepted left (told .said)
 
 abbrev pub RunIsSingleSteps : Type 0
-RunIsSingleSteps = (t r : List ℕ) → table.readTable t .said ≡ table.read → RunSteps (tableOf t) (readingBy t r) (runOf t r)
+RunIsSingleSteps = (t r : List ℕ) → TableReads t → RunSteps (tableOf t) (readingBy t r) (runOf t r)
 
 -- two recordings of one exercise, in whose steps the same clocks tick together, steps without ticks left out, have the same verdict and words;
 -- where the times of these steps are the same too, the time of a violation is the same
 abbrev pub SameRuns : (stamp : ℕ → ℕ) → Type 0
 SameRuns stamp =
     (t r q : List ℕ)
-    → table.readTable t .said ≡ table.read
+    → TableReads t
     → readingBy t r .ending ≡ ended
     → readingBy t q .ending ≡ ended
     → ticking stamp (readingBy t r .steps) ≡ ticking stamp (readingBy t q .steps)

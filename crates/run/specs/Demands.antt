@@ -6,7 +6,8 @@ use mathlib.Core.Logic.{_↔_}
 use mathlib.Core.List.{List}
 use Prim.Native.Nat.{ℕ}
 use Rattle.constraint.specs.SamePlace.{SamePlaceRefused, SamePlaceMeant}
-use Rattle.table.specs.Reader as table
+use Rattle.forms.specs.Lines.{TableRefuses, TableReads}
+use Rattle.table.specs.Claims.{ReadAs}
 use Rattle.judging.specs.Answers.{EveryStepAnswers}
 use Rattle.run.specs.Judgement.{Judges}
 use Rattle.run.specs.Refusals.{RunRefuses}
@@ -17,16 +18,16 @@ use Rattle.run.specs.Run as run
 -- all zeros where the table was refused; a single step gives back the one it was handed.
 pub record Demand1 : Type 0 where
   pub run-refused : (t r : List ℕ) (n p : ℕ) → run.runOf t r .said ≡ run.refused n p ↔ RunRefuses t r n p
-  pub table-refused : (t r : List ℕ) (n p : ℕ) → table.readTable t .said ≡ table.refused n p
+  pub table-refused : (t r : List ℕ) (n p : ℕ) → TableRefuses t n p
       → run.runOf t r ≡ record { said = run.refused n p; steps = 0; constraints = 0; configuration = run.zeros }
   pub step-answers : EveryStepAnswers
   pub same-place-refused : SamePlaceRefused
 
 -- 2. Unless a refusal comes first, a recording is accepted up to the first step at which some constraint fails under the operational rules as
 -- document 01 fixes them. The failing constraint highest in the table is named. After each accepted step every word of the configuration is
--- what those rules give.
+-- what those rules give. (The constraints are the forms of the table's lines.)
 abbrev pub Demand2 : Type 0
-Demand2 = (t r : List ℕ) → table.readTable t .said ≡ table.read → Judges (run.tableOf t) (run.readingBy t r) (run.runOf t r)
+Demand2 = (t r : List ℕ) → TableReads t → ReadAs t (run.tableOf t) × Judges (run.tableOf t) (run.readingBy t r) (run.runOf t r)
 
 -- 3. For every table and every two configurations of it, each with all words in range, whether or not a run can reach them, the same-place
 -- question says yes exactly when, for every constraint judged by itself and for every continuation, the constraint accepts it from both or from

@@ -1,5 +1,5 @@
--- When a run is refused, and with which number and place: document 01, "Where each refusal is checked". Of the calls on records the crates
--- `judging` and `constraint` say it. Assumes nothing.
+-- When a run is refused, and with which number and place: document 01, "Where each refusal is checked". Of a table the crate `forms` says it, of
+-- the calls on records `judging` and `constraint`. Assumes nothing.
 use mathlib.Core.Path.{_≡_}
 use mathlib.Core.List.{List, _∷_, _++_}
 use Prim.Native.Nat.{ℕ}
@@ -7,8 +7,7 @@ use Rattle.limit.specs.Limit.{numberOf}
 use Rattle.limit.specs.declared.Limit.{Limit}
 use Rattle.limit.specs.declared.Limit.the-variants.{Million}
 use Rattle.constraint.specs.declared.Constraint.{Constraint}
-use Rattle.forms.specs.Lines.{TableRefuses}
-use Rattle.table.specs.Reader as table
+use Rattle.forms.specs.Lines.{TableRefuses, TableReads}
 use Rattle.recording.specs.Body.{refusedAt}
 use Rattle.recording.specs.declared.Step.{Step}
 use Rattle.run.specs.Judgement.{Accepted, Every, FirstWithout, HoldsAt, StaysAt}
@@ -18,12 +17,12 @@ use Rattle.run.specs.Run.{tableOf, readingBy}
 pub data RunRefuses (t r : List ℕ) : (number place : ℕ) → Type 0 where
   by-table : {n p : ℕ} → TableRefuses t n p → RunRefuses t r n p
   by-reading : {l : Limit} {p : ℕ}
-      → table.readTable t .said ≡ table.read
+      → TableReads t
       → readingBy t r .ending ≡ refusedAt l p
       → Accepted (tableOf t .records) (readingBy t r .steps)
       → RunRefuses t r (numberOf l) p
   by-million : (before later : List Step) (s : Step) (c : Constraint)
-      → table.readTable t .said ≡ table.read
+      → TableReads t
       → readingBy t r .steps ≡ before ++ s ∷ later
       → Accepted (tableOf t .records) before
       → Every (HoldsAt before s) (tableOf t .records)

@@ -1,4 +1,4 @@
--- Each check of a line is broken exactly where its row of the limits is: 11 to 15 by the line, 16 to 18 by the lines above too.
+-- Each check of a line is broken exactly where its row of the limits is: 11 and 13 to 15 by the line, 16 to 18 by the lines above too.
 -- Assumes nothing.
 use mathlib.Core.Path.{_≡_, refl, sym, ap, subst, _∙_}
 use mathlib.Core.Logic.{_↔_}

@@ -48,17 +48,19 @@ module _ (P : Builder → Type 0) (above : List Line) (l : Line) (n : ℕ) where
   check true m r c s k = (r .0 refl, c, refl)
   check false m r c s k = k refl (clear-next above l m c (λ b. false≢true (r .1 b)))
 
--- ---- a line from a to e of a text t
+-- ---- a line l from a to e of a text t, which has the number n
 module _ (t : List ℕ) (a e n : ℕ) (h : a ≤ e) (k : e ≤ length t) (above : List Line) (rs : List Constraint) (b : Builder) (g : Builds t a above rs b) where
   abbrev l : Line
   l = bytesOf t (span a e)
 
+  -- the text up to its end, and its words there
   abbrev cut : List ℕ
   cut = take e t
 
   abbrev ws : List Span
   ws = lineWords cut a
 
+  -- the names with those of the line, and as the reader lists them
   abbrev us : Words
   us = clockNames (above ++ l ∷ [])
 
@@ -92,8 +94,8 @@ module _ (t : List ℕ) (a e n : ℕ) (h : a ≤ e) (k : e ≤ length t) (above 
   few : length (clockNames above) ≤ 32
   few = ltb-false 32 (length (clockNames above)) (sym (g .names .over) ∙ g .few)
 
-  abbrev Line-verdict : Checked Builder → Type 0
-  Line-verdict = Verdict Next above l n
+  abbrev Comes : Checked Builder → Type 0
+  Comes = Verdict Next above l n
 
   left-is : (f : Form Operand) → formOf cut ns f .left ≡ ns
   left-is (relates j x y) = refl
@@ -102,7 +104,7 @@ module _ (t : List ℕ) (a e n : ℕ) (h : a ≤ e) (k : e ≤ length t) (above 
 
   module _ (full : Filled l) (f : Form Operand) (form : HasForm l f) where
     -- 16, 17 and 18
-    line-added : anyWord (badNumber cut) ws ≡ false → Clear above l 16 → Line-verdict (addLine n b ns (formOf cut ns f .constraint))
+    line-added : anyWord (badNumber cut) ws ≡ false → Clear above l (numberOf DefinedTwice) → Comes (addLine n b ns (formOf cut ns f .constraint))
     unfolding addLine
     line-added p14 c16 =
         check Next above l n (any (bits (b .defined)) (definedOf (formOf cut ns f .constraint))) DefinedTwice (row-16 above l (bits (b .defined)) (g .marks) cut ns (named .kept) few f form) c16 _ (λ p16 c17.
@@ -117,7 +119,7 @@ module _ (t : List ℕ) (a e n : ℕ) (h : a ≤ e) (k : e ≤ length t) (above 
         ))))
 
     -- 13, 14 and 15
-    line-formed : (p : Formed Names) (us : List Span) → p ≡ formOf cut ns f → Clear above l 13 → Line-verdict (formStep cut n b ws (parsed p us))
+    line-formed : (p : Formed Names) (us : List Span) → p ≡ formOf cut ns f → Clear above l (numberOf NameLength) → Comes (formStep cut n b ws (parsed p us))
     unfolding formStep
     line-formed p us q c13 =
         check Next above l n (anyWord (longName cut) ws) NameLength (row-13 above l cut ws words) c13 _ (λ p13 c14.
@@ -127,7 +129,7 @@ module _ (t : List ℕ) (a e n : ℕ) (h : a ≤ e) (k : e ≤ length t) (above 
 
   module _ (full : Filled l) where
     -- 12
-    line-read : (p : Parsed (Formed Names)) → formIn cut ns ws ≡ p → Clear above l 12 → Line-verdict (formStep cut n b ws p)
+    line-read : (p : Parsed (Formed Names)) → formIn cut ns ws ≡ p → Clear above l (numberOf LineForm) → Comes (formStep cut n b ws p)
     unfolding formStep
     line-read noForm q c12 = (no-form full (λ f form. no-form-row cut ns ws .0 q f (subst (λ (vs : Words). IsForm IsOperand vs f) (sym words) form)), c12, refl)
     line-read (parsed p us) q c12 =
@@ -139,14 +141,14 @@ module _ (t : List ℕ) (a e n : ℕ) (h : a ≤ e) (k : e ≤ length t) (above 
         fits f form (no-form d none) = none f form
 
     -- 11
-    line-filled : Line-verdict (filledStep cut n b a)
+    line-filled : Comes (filledStep cut n b a)
     line-filled =
         check Next above l n (not (allBytes (inClass Printable) (drop a cut))) LineByte (rw line (row-11 above l)) (clear-first above l) _ (λ p11 c12.
         line-read (formIn cut ns ws) refl c12)
 
-  pub line-verdict : Line-verdict (lineStep cut n b a)
+  pub line-verdict : Comes (lineStep cut n b a)
   line-verdict = go (blank cut a) (ap (allBytes (inClass Space)) (sym line))
     where
-      go : (x : Bool) → allBytes (inClass Space) l ≡ x → Line-verdict (cond x (passed b) (filledStep cut n b a))
+      go : (x : Bool) → allBytes (inClass Space) l ≡ x → Comes (cond x (passed b) (filledStep cut n b a))
       go true q = (blank-breaks-nothing above l q, record { records = rs; added = none-added (blank-words l q); builds = blank-builds above l (blank-words l q) t e rs b (builds-on t a e h above rs b g) })
       go false q = line-filled (other-words l q)

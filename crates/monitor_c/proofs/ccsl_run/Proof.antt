@@ -2,7 +2,7 @@
 use mathlib.Core.Path.{ap, _∙_}
 use mathlib.Core.List.{[], _∷_}
 use lib.ListN.{set}
-use Rattle.run.specs.Run.{said, told}
+use Rattle.run.specs.Run.{said}
 use Rattle.monitor_c.specs.Calls.{written, done, left, runLeft}
 use Rattle.monitor_c.specs.Numbers.{ofRun, answerAnd}
 use Rattle.monitor_c.proofs.CallLaws.{five, run-answer-short, run-words-short, run-done}
