@@ -14,7 +14,7 @@ use Rattle.text.specs.Split.{bytesOf}
 use Rattle.text.specs.declared.Span.{Span}
 use Rattle.recording.specs.Answers.{turnAs}
 use Rattle.recording.specs.Body.{opensMark, levelOf, markTurn, variableTurn, levelTurn, changeTurn, wordTurn, ended, refusedAt, endsWith, closing, onward, bodySteps}
-use Rattle.limit.specs.Checked.{stopped}
+use Rattle.limit.specs.Checked.{Checked, stopped}
 use Rattle.recording.specs.Variables.{Variable}
 use Rattle.recording.specs.declared.Level.{Level}
 use Rattle.recording.specs.declared.Level.the-variants.{Tick, NoTick, NoChange}
@@ -49,41 +49,41 @@ no-digits o at [] e = refl
 no-digits o at (b ∷ bs) e = absurd (omega arith)
 
 module _ (vs : List Variable) (o : Step) (at : ℕ) (w : List ℕ) where
-  pub change-short : length w < 2 → changeTurn vs o at w ≡ stopped BodyWord at
-  change-short h = go w h
+  pub change-short : length w < 2 → (t : Checked Step) → t ≡ stopped BodyWord at → t ≡ changeTurn vs o at w
+  change-short h t q = q ∙ go w h
     where
-      go : (w : List ℕ) → length w < 2 → changeTurn vs o at w ≡ stopped BodyWord at
+      go : (w : List ℕ) → length w < 2 → stopped BodyWord at ≡ changeTurn vs o at w
       go [] h = unfold changeTurn in refl
       go (b ∷ []) h = unfold changeTurn levelTurn in refl
       go (b ∷ c ∷ bs) h = absurd (omega arith)
 
-  module _ (h : 2 ≤ length w) where
-    change-is : (l : Level) → levelOf (getD w 0 0) ≡ l → changeTurn vs o at w ≡ levelTurn vs o at l (drop 1 w)
-    change-is l e = go w h e
+  module _ (h : 2 ≤ length w) (l : Level) (said : l ≡ levelOf (getD w 0 0)) (t : Checked Step) where
+    change-is : changeTurn vs o at w ≡ levelTurn vs o at l (drop 1 w)
+    change-is = go w h said
       where
-        go : (w : List ℕ) → 2 ≤ length w → levelOf (getD w 0 0) ≡ l → changeTurn vs o at w ≡ levelTurn vs o at l (drop 1 w)
+        go : (w : List ℕ) → 2 ≤ length w → l ≡ levelOf (getD w 0 0) → changeTurn vs o at w ≡ levelTurn vs o at l (drop 1 w)
         go [] h e = absurd (omega arith)
-        go (b ∷ bs) h e = unfold changeTurn in ap (λ (x : Level). levelTurn vs o at x bs) e
+        go (b ∷ bs) h e = unfold changeTurn in ap (λ (x : Level). levelTurn vs o at x bs) (sym e)
 
-    level-id : (l : Level) (tick : Bool) → ((i : ℕ) (is : List ℕ) → levelTurn vs o at l (i ∷ is) ≡ variableTurn vs o at tick (i ∷ is))
-        → levelTurn vs o at l (drop 1 w) ≡ variableTurn vs o at tick (drop 1 w)
-    level-id l tick f = go w h
+    level-id : (tick : Bool) → ((i : ℕ) (is : List ℕ) → variableTurn vs o at tick (i ∷ is) ≡ levelTurn vs o at l (i ∷ is))
+        → variableTurn vs o at tick (tail w) ≡ changeTurn vs o at w
+    level-id tick f = ap (variableTurn vs o at tick) (behind w) ∙ go w h ∙ sym change-is
       where
-        go : (w : List ℕ) → 2 ≤ length w → levelTurn vs o at l (drop 1 w) ≡ variableTurn vs o at tick (drop 1 w)
+        go : (w : List ℕ) → 2 ≤ length w → variableTurn vs o at tick (drop 1 w) ≡ levelTurn vs o at l (drop 1 w)
         go [] h = absurd (omega arith)
         go (b ∷ []) h = absurd (omega arith)
         go (b ∷ i ∷ is) h = f i is
 
-    pub change-tick : levelOf (getD w 0 0) ≡ Tick → changeTurn vs o at w ≡ variableTurn vs o at true (tail w)
-    change-tick e = change-is Tick e ∙ level-id Tick true (λ i is. unfold levelTurn in refl) ∙ ap (variableTurn vs o at true) (sym (behind w))
+    pub change-tick : l ≡ Tick → t ≡ variableTurn vs o at true (tail w) → t ≡ changeTurn vs o at w
+    change-tick e q = q ∙ level-id true (λ i is. rw e (unfold levelTurn in refl))
 
-    pub change-no-tick : levelOf (getD w 0 0) ≡ NoTick → changeTurn vs o at w ≡ variableTurn vs o at false (tail w)
-    change-no-tick e = change-is NoTick e ∙ level-id NoTick false (λ i is. unfold levelTurn in refl) ∙ ap (variableTurn vs o at false) (sym (behind w))
+    pub change-no-tick : l ≡ NoTick → t ≡ variableTurn vs o at false (tail w) → t ≡ changeTurn vs o at w
+    change-no-tick e q = q ∙ level-id false (λ i is. rw e (unfold levelTurn in refl))
 
-    pub change-other : levelOf (getD w 0 0) ≡ NoChange → changeTurn vs o at w ≡ stopped BodyWord at
-    change-other e = change-is NoChange e ∙ go (drop 1 w)
+    pub change-other : l ≡ NoChange → t ≡ stopped BodyWord at → t ≡ changeTurn vs o at w
+    change-other e q = q ∙ rw e (go (drop 1 w)) ∙ sym change-is
       where
-        go : (id : List ℕ) → levelTurn vs o at NoChange id ≡ stopped BodyWord at
+        go : (id : List ℕ) → stopped BodyWord at ≡ levelTurn vs o at NoChange id
         go [] = unfold levelTurn in refl
         go (i ∷ is) = unfold levelTurn in refl
 

@@ -3,6 +3,7 @@ use mathlib.Core.Path.{_≡_, refl, sym, ap, _∙_}
 use mathlib.Core.Bool.{Bool, true, false, not, cond, _&&_, _||_, true≢false}
 use mathlib.Core.List.{List, [], _∷_, _++_, nil≢cons, head-eq-of-cons-eq, tail-eq-of-cons-eq}
 use Prim.Native.Nat.{ℕ, _-_, _≤_, _<_}
+use Prim.Native.String.{String}
 use native.Mathlib.Decide.{decLt}
 use native.Mathlib.Omega.{arith}
 use borrow.Author.Tests.{leb-true, le-leb, lt-leb, lt-ltb, le-ltb}
@@ -11,20 +12,34 @@ use lib.ListN.{length}
 use Rattle.limit.specs.Checked.{Checked, passed, stopped, andThen, checked}
 use Rattle.limit.specs.declared.Check.{Check}
 use Rattle.limit.specs.declared.Check.the-variants.{Passed, Refused}
-use Rattle.limit.specs.declared.Limit.the-variants.{HeaderCommand, VariableShape, DeclaredTwice, VariableCount, ClockUndeclared, RecordingLength, RecordingByte}
+use Rattle.limit.specs.declared.Limit.the-variants.{HeaderCommand, VariableShape, DeclaredTwice, VariableCount, ClockUndeclared, HeaderCutOff, RecordingLength, RecordingByte}
+use Rattle.limit.specs.declared.Refusal.{Refusal}
 use Rattle.constraint.proofs.Booleans.{and-l, and-r}
 use Rattle.text.specs.Bytes.{sameBytes}
 use Rattle.text.specs.Split.{bytesOf, front, rest, NextWord}
 use Rattle.text.specs.declared.Class.the-variants.{Parting}
 use Rattle.text.specs.declared.Span.{Span}
 use Rattle.text.proofs.Runs.{is-word, is-last, words-over}
-use Rattle.recording.specs.Answers.{afterEnd, Resumes, FiveWords}
+use Rattle.recording.specs.Answers.{afterEnd, Resumes, FiveWords, declaredAs, headerAs, Declares}
 use Rattle.recording.specs.Header.{words, says, commandOf, shaped, declare, Header, cutOff, close, byCommand, header, skipping, declaring, mostBytes, firstOther, opened}
 use Rattle.recording.specs.Variables.{Variable, lookUp, isDeclared, clockAgain, allDeclared}
 use Rattle.recording.specs.declared.Command.{Command}
 use Rattle.recording.specs.declared.Command.the-variants.{Skipped, Declaration, Definitions, Unknown}
+use Rattle.recording.specs.Index.{declared}
+use Rattle.recording.specs.declared.Declared.{Declared}
+use Rattle.recording.specs.declared.HeaderRead.{HeaderRead}
 use Rattle.recording.specs.declared.Words.{Words}
-use Rattle.limit.proofs.CheckLaws.{refuses, allows}
+use Rattle.limit.proofs.CheckLaws.{refuses, allows, stays-stopped, goes-on, ends-there, stops}
+
+-- tests that answer the same
+pub or-same : {a b x y : Bool} → a ≡ x → b ≡ y → (a || b) ≡ (x || y)
+or-same p q = rw (p, q)
+
+pub and-same : {a b x y : Bool} → a ≡ x → b ≡ y → (a && b) ≡ (x && y)
+and-same p q = rw (p, q)
+
+pub says-part : (s : String) {x : Bool} {w v : List ℕ} → x ≡ says w s → w ≡ v → x ≡ says v s
+says-part s p q = rw q at p
 
 -- a word is left, or none is
 module _ (r : List ℕ) (at : ℕ) (w : Span) (n : NextWord Parting r at w) where
@@ -43,6 +58,14 @@ module _ (r : List ℕ) (at : ℕ) (w : Span) (n : NextWord Parting r at w) wher
       go : Dec (at < length r) → at < w .end
       go (yes k) = n .forward k
       go (no k) = absurd (h (words-over r Parting at (omega arith)))
+
+  -- a word stands within the recording
+  pub within : w .start < w .end → at < length r
+  within h = go (decLt at (length r))
+    where
+      go : Dec (at < length r) → at < length r
+      go (yes k) = k
+      go (no k) = absurd (nil≢cons (sym (words-over r Parting at (omega arith)) ∙ is-word r Parting at w n h))
 
   -- ---- the words behind the first `$end`
   pub end-stop : says (bytesOf r w) "$end" ≡ true → afterEnd r (words r at) ≡ words r (w .end)
@@ -113,6 +136,16 @@ module _ (named : List ℕ → ℕ) (r : List ℕ) (at : ℕ) (vs : List Variabl
       unfolding declare
       declare-more h = allows _ _ _ _ (ap not s) ∙ allows _ _ _ _ d ∙ allows _ _ _ _ (lt-leb 128 (length vs) h)
 
+-- a variable more, and the words after it, are what is left of a header
+left-after : (o : Check) (vs : List Variable) (us : List Span) (f : List Variable → List Span → Checked Header)
+    → andThen (checked o vs) (λ v. f v us) ≡ andThen {A = Header} (checked o (record { variables = vs; body = us })) (λ g. f (g .variables) (g .body))
+unfolding andThen
+left-after Passed vs us f = refl
+left-after (Refused r) vs us f = refl
+
+pub not-passed : (o : Check) (f : Refusal) → o ≡ Refused f → o ≡ Passed → ⊥
+not-passed o f r p = let z : _≡_ {A = ℕ} 0 1 = cc in omega arith
+
 -- five words in a row, if the last has a byte
 module _ (r : List ℕ) (from : ℕ) (ws : Words) (five : FiveWords r from ws) where
   fourth : words r (ws .name .end) ≡ rest (rest (rest (rest (words r from))))
@@ -139,18 +172,19 @@ module _ (r : List ℕ) (from : ℕ) (ws : Words) (five : FiveWords r from ws) w
     long (a ∷ b ∷ c ∷ d ∷ []) l later e = absurd (nil≢cons e)
     long (a ∷ b ∷ c ∷ d ∷ x ∷ us) l later e = rw (head-eq-of-cons-eq e, tail-eq-of-cons-eq e)
 
-    pub declaring-cut : ws .last .end ≤ ws .last .start → declaring named n r vs at (words r from) ≡ cutOff r
-    declaring-cut h = short (words r from) (sym fourth ∙ is-last r Parting (ws .name .end) (ws .last) (five .last) h)
+    pub five-stop : ws .last .end ≤ ws .last .start → (o : Check) (g : Header) → o ≡ Refused (record { limit = HeaderCutOff; place = record { 0 = length r } })
+        → declaring named n r vs at (words r from) ≡ andThen (checked o g) (λ h. header named n r (h .variables) (h .body))
+    five-stop h o g e =
+        short (words r from) (sym fourth ∙ is-last r Parting (ws .name .end) (ws .last) (five .last) h) ∙ sym (stays-stopped (checked o g) (λ h. header named n r (h .variables) (h .body)) _ _ (stops o g _ _ e))
 
-    pub declaring-five : ws .last .start < ws .last .end
-        → declaring named n r vs at (words r from)
-        ≡ andThen (declare named r at vs (ws .kind) (ws .width) (ws .id) (ws .name) (ws .last)) (λ v. header named n r v (words r (ws .last .end)))
-    declaring-five h =
+    pub five-on : ws .last .start < ws .last .end → (d : Declared) → declaredAs d ≡ declare named r at vs (ws .kind) (ws .width) (ws .id) (ws .name) (ws .last)
+        → declaring named n r vs at (words r from) ≡ andThen {A = Header} (checked (d .outcome) (record { variables = declared (d .variables); body = words r (ws .last .end) })) (λ h. header named n r (h .variables) (h .body))
+    five-on h d e =
         let u = words r from in
         let width : ws .width ≡ front r (rest u) = five .width .found ∙ ap (front r) (five .kind .after) in
         let id : ws .id ≡ front r (rest (rest u)) = five .id .found ∙ ap (front r) (five .width .after ∙ ap rest (five .kind .after)) in
         let name : ws .name ≡ front r (rest (rest (rest u))) = five .name .found ∙ ap (front r) (five .id .after ∙ ap rest (five .width .after ∙ ap rest (five .kind .after))) in
-        long u (ws .last) (words r (ws .last .end)) (sym fourth ∙ is-word r Parting (ws .name .end) (ws .last) (five .last) h) ∙ rw (five .kind .found, width, id, name)
+        long u (ws .last) (words r (ws .last .end)) (sym fourth ∙ is-word r Parting (ws .name .end) (ws .last) (five .last) h) ∙ rw (← five .kind .found, ← width, ← id, ← name, ← e) (left-after (d .outcome) (declared (d .variables)) (words r (ws .last .end)) (header named n r))
 
   -- each word ends further on
   pub five-forward : ws .last .start < ws .last .end → from < ws .last .end
@@ -179,24 +213,33 @@ module _ (named : List ℕ → ℕ) (n : ℕ) (r : List ℕ) (vs : List Variable
       go true ih = refl
       go false ih = ih
 
-  module _ (at : ℕ) (w : Span) (next : NextWord Parting r at w) (some : w .start < w .end) where
-    opens : (k : Command) → commandOf (bytesOf r w) ≡ k
-        → header named n r vs (words r at)
-        ≡ byCommand k (skipping named n r vs (words r (w .end))) (declaring named n r vs (w .start) (words r (w .end))) (close n r (w .start) vs (words r (w .end))) (stopped HeaderCommand (w .start))
-    unfolding header
-    opens k e = rw (is-word r Parting at w next some, e)
+  -- with the next word, where the header from an offset on is what was to be read
+  module _ (at : ℕ) (w : Span) (next : NextWord Parting r at w) (z : Checked Header) (from : header named n r vs (words r at) ≡ z) where
+    pub cut-done : w .end ≤ w .start → (o : Check) (h : Header) → o ≡ Refused (record { limit = HeaderCutOff; place = record { 0 = length r } }) → checked o h ≡ z
+    cut-done l o h e = stops o h _ _ e ∙ sym (header-done (words r at) (is-last r Parting at w next l)) ∙ from
 
-    pub opens-skipped : commandOf (bytesOf r w) ≡ Skipped → (i : ℕ) → Resumes r (w .end) i → header named n r vs (words r at) ≡ header named n r vs (words r i)
-    opens-skipped e i s = opens Skipped e ∙ skipping-on (words r (w .end)) ∙ ap (header named n r vs) (sym (s .left))
+    module _ (some : w .start < w .end) where
+      opens : (k : Command) → commandOf (bytesOf r w) ≡ k
+          → byCommand k (skipping named n r vs (words r (w .end))) (declaring named n r vs (w .start) (words r (w .end))) (close n r (w .start) vs (words r (w .end))) (stopped HeaderCommand (w .start))
+          ≡ z
+      unfolding header
+      opens k e = rw (is-word r Parting at w next some, e) at from
 
-    pub opens-declaration : commandOf (bytesOf r w) ≡ Declaration → header named n r vs (words r at) ≡ declaring named n r vs (w .start) (words r (w .end))
-    opens-declaration e = opens Declaration e
+      pub skipped-on : commandOf (bytesOf r w) ≡ Skipped → (i : ℕ) → Resumes r (w .end) i → header named n r vs (words r i) ≡ z
+      skipped-on k i s = rw (s .left) (sym (skipping-on (words r (w .end))) ∙ opens Skipped k)
 
-    pub opens-definitions : commandOf (bytesOf r w) ≡ Definitions → header named n r vs (words r at) ≡ close n r (w .start) vs (words r (w .end))
-    opens-definitions e = opens Definitions e
+      module _ (k : commandOf (bytesOf r w) ≡ Declaration) (h : HeaderRead) (d : Declares named n r vs w h) where
+        pub declared-stop : (f : Refusal) → h .outcome ≡ Refused f → headerAs r h ≡ z
+        declared-stop f e = sym (ends-there (h .outcome) _ _ f e) ∙ sym (d .says) ∙ opens Declaration k
 
-    pub opens-nothing : commandOf (bytesOf r w) ≡ Unknown → header named n r vs (words r at) ≡ stopped HeaderCommand (w .start)
-    opens-nothing e = opens Unknown e
+        pub declared-on : h .outcome ≡ Passed → header named n r (declared (h .variables)) (words r (h .body)) ≡ z
+        declared-on e = sym (goes-on (h .outcome) _ _ e) ∙ sym (d .says) ∙ opens Declaration k
+
+      pub definitions-done : commandOf (bytesOf r w) ≡ Definitions → (c : Checked Header) → c ≡ close n r (w .start) vs (words r (w .end)) → c ≡ z
+      definitions-done k c e = e ∙ opens Definitions k
+
+      pub unknown-stop : commandOf (bytesOf r w) ≡ Unknown → (o : Check) (h : Header) → o ≡ Refused (record { limit = HeaderCommand; place = record { 0 = w .start } }) → checked o h ≡ z
+      unknown-stop k o h e = stops o h _ _ e ∙ opens Unknown k
 
 -- ---- before words
 module _ (named : List ℕ → ℕ) (n : ℕ) (r : List ℕ) where
@@ -221,10 +264,3 @@ module _ (named : List ℕ → ℕ) (n : ℕ) (r : List ℕ) where
       go : Dec (mostBytes < length r) → length r ≤ mostBytes
       go (no k) = omega arith
       go (yes k) = let s : opened named n r ≡ stopped RecordingLength 0 = opened-long k in let z : _≡_ {A = ℕ} 0 1 = cc in absurd (omega arith)
-
--- a variable more, and the words after it, are what is left of a header
-pub left-after : (o : Check) (vs : List Variable) (us : List Span) (f : List Variable → List Span → Checked Header)
-    → andThen (checked o vs) (λ v. f v us) ≡ andThen {A = Header} (checked o (record { variables = vs; body = us })) (λ g. f (g .variables) (g .body))
-unfolding andThen
-left-after Passed vs us f = refl
-left-after (Refused r) vs us f = refl

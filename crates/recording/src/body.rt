@@ -58,8 +58,7 @@ fn opens_mark(word: &[u8]) -> bool
 fn timed(step: Step, at: usize, time: u64) -> Turn
     ensures { λ r. ⌜ a.turnAs r ≡ b.markTurn step at (Number.Value time) ⌝ }
 {
-    let last = step.time;
-    if step.begun & (time <= last.0) {
+    if step.begun & (time <= step.time.0) {
         return stopped(Limit::MarkTime, at);
     }
     Turn::Passed(Step {
@@ -74,16 +73,15 @@ fn timed(step: Step, at: usize, time: u64) -> Turn
 pub fn read_mark(recording: &[u8], step: Step, word: Span) -> Turn
     ensures { λ r. ⌜ a.turnAs r ≡ b.markTurn step (word .start) (number (drop 1 (bytesOf (now (recording .entry)) word))) ⌝ }
 {
-    let at = word.start;
     let bytes = text::part(recording, word);
     if bytes.len() == 0 {
-        return stopped(Limit::BodyWord, at);
+        return stopped(Limit::BodyWord, word.start);
     }
     let said = text::decimal(&bytes[1..]);
     match said {
-        Number::NotDigits => stopped(Limit::BodyWord, at),
-        Number::TooLarge => stopped(Limit::MarkTime, at),
-        Number::Value(time) => timed(step, at, time),
+        Number::NotDigits => stopped(Limit::BodyWord, word.start),
+        Number::TooLarge => stopped(Limit::MarkTime, word.start),
+        Number::Value(time) => timed(step, word.start, time),
     }
 }
 
@@ -162,9 +160,10 @@ fn change<'a>(
         return stopped(Limit::BodyWord, at);
     }
     let said = level(word[0]);
+    let id = &word[1..];
     match said {
-        Level::Tick => variable(ids, clocks, count, starts, step, at, true, &word[1..]),
-        Level::NoTick => variable(ids, clocks, count, starts, step, at, false, &word[1..]),
+        Level::Tick => variable(ids, clocks, count, starts, step, at, true, id),
+        Level::NoTick => variable(ids, clocks, count, starts, step, at, false, id),
         Level::NoChange => stopped(Limit::BodyWord, at),
     }
 }
@@ -184,7 +183,7 @@ pub fn read_changes<'a>(
 {
     let mut step = opened;
     let mut at = from;
-    while at < recording.len() {
+    loop {
         let word = text::next_word(Class::Parting, recording, at);
         if word.end <= word.start {
             return ChangesRead::End(step);
@@ -211,5 +210,4 @@ pub fn read_changes<'a>(
             }
         }
     }
-    ChangesRead::End(step)
 }

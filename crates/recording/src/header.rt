@@ -99,14 +99,10 @@ fn five_words(recording: &[u8], from: usize) -> Words
 fn shaped(recording: &[u8], words: Words) -> bool
     ensures { λ r. ⌜ r ≡ h.shaped (now (recording .entry)) (words .kind) (words .width) (words .id) (words .last) ⌝ }
 {
-    let kind = words.kind;
-    let width = words.width;
-    let id = words.id;
-    let last = words.last;
-    text::same_bytes(text::part(recording, kind), b"event")
-        & text::same_bytes(text::part(recording, width), b"1")
-        & (text::part(recording, id).len() <= 4)
-        & text::same_bytes(text::part(recording, last), b"$end")
+    text::same_bytes(text::part(recording, words.kind), b"event")
+        & text::same_bytes(text::part(recording, words.width), b"1")
+        & (text::part(recording, words.id).len() <= 4)
+        & text::same_bytes(text::part(recording, words.last), b"$end")
 }
 
 // The number of the table's clock with a name.
@@ -148,10 +144,8 @@ fn declare(
     if !shaped(recording, words) {
         return undeclared(variables, Limit::VariableShape, at);
     }
-    let id = words.id;
-    let name = words.name;
-    let clock = clock_named(table, names, text::part(recording, name));
-    if is_declared(variables, text::part(recording, id)) | clock_again(variables, clock) {
+    let clock = clock_named(table, names, text::part(recording, words.name));
+    if is_declared(variables, text::part(recording, words.id)) | clock_again(variables, clock) {
         return undeclared(variables, Limit::DeclaredTwice, at);
     }
     if 128 <= variables.count {
@@ -159,7 +153,7 @@ fn declare(
     }
     Declared {
         outcome: Check::Passed,
-        variables: with_variable(variables, code(text::part(recording, id)), clock),
+        variables: with_variable(variables, code(text::part(recording, words.id)), clock),
     }
 }
 
@@ -189,8 +183,7 @@ fn declaration(
     ensures { λ r. ⌜ a.Declares (v.clockNamed (now (table .entry)) names) (names .count) (now (recording .entry)) (x.declared variables) command r ⌝ }
 {
     let words = five_words(recording, command.end);
-    let last = words.last;
-    if last.end <= last.start {
+    if words.last.end <= words.last.start {
         return refused(variables, Limit::HeaderCutOff, recording.len());
     }
     let declared = declare(table, names, recording, variables, command.start, words);
@@ -199,7 +192,7 @@ fn declaration(
     HeaderRead {
         outcome,
         variables: more,
-        body: last.end,
+        body: words.last.end,
     }
 }
 
@@ -232,7 +225,7 @@ fn commands(table: &[u8], names: Names, recording: &[u8]) -> HeaderRead
 {
     let mut variables = none();
     let mut at = 0;
-    while at < recording.len() {
+    loop {
         let word = text::next_word(Class::Parting, recording, at);
         if word.end <= word.start {
             return refused(variables, Limit::HeaderCutOff, recording.len());
@@ -261,7 +254,6 @@ fn commands(table: &[u8], names: Names, recording: &[u8]) -> HeaderRead
             }
         }
     }
-    refused(variables, Limit::HeaderCutOff, recording.len())
 }
 
 // The header of a recording: its variables, and where the body begins; or the first refusal of 30 to 37.

@@ -9,12 +9,13 @@ use denote.Ref.{now}
 use lib.ListN.{length}
 use Rattle.text.specs.Split.{bytesOf}
 use Rattle.text.specs.declared.Class.the-variants.{Parting}
-use Rattle.text.proofs.Runs.{is-word, is-last, words-over}
+use Rattle.text.proofs.Runs.{is-word, is-last}
 use Rattle.recording.specs.Answers.{turnAs}
 use Rattle.recording.specs.Body.{opensMark, changeTurn, bodySteps}
 use Rattle.recording.specs.Header.{words}
 use Rattle.recording.specs.Index.{variablesOf}
 use Rattle.recording.proofs.BodyLaws.{body-done, body-mark, change-stop, change-on}
+use Rattle.recording.proofs.HeaderLaws.{within}
 use borrow.Author.Needs.{needs}
 use Rattle.recording.proofs.body.read_changes.Statement.{statement}
 use Rattle.recording.proofs.body.read_changes.Tie as tie
@@ -30,7 +31,7 @@ abbrev μ-loop : tie.MeasureT-loop
 -- a word is left, and the words behind it
 some : (c : tie.Else1 Inv-loop μ-loop) →
     let w = c .before .before .next-word .result in
-    let l = c .before .before .before .before in
+    let l = c .before .before .before in
     let r = now (l .before .before .before .before .before .args .recording) in
     words r (l .loop .at) ≡ w ∷ words r (w .end)
 some c = let n = c .before .before .next-word in is-word _ Parting _ (n .result) (n .ensures) (c .if1 .left)
@@ -39,7 +40,7 @@ returns : tie.Need-returns Inv-loop μ-loop
 returns c =
     let n = c .before .before .next-word in
     record {
-      left = sym (body-done _ _ _ _ (is-last _ Parting _ (n .result) (n .ensures) (c .if1 .taken))) ∙ c .before .before .before .before .loop .inv .1;
+      left = sym (body-done _ _ _ _ (is-last _ Parting _ (n .result) (n .ensures) (c .if1 .taken))) ∙ c .before .before .before .loop .inv .1;
       forward = tt;
     }
 
@@ -47,25 +48,26 @@ returns-2 : tie.Need-returns-2 Inv-loop μ-loop
 returns-2 c =
     let o = c .before in
     let e = o .before .before in
-    let n = e .before .before in
-    let l = n .before .before in
+    let n = e .before .before .next-word in
+    let i = e .before .before .before .loop .inv in
+    let h = within _ _ (n .result) (n .ensures) (e .if1 .left) in
     record {
-      left = sym (body-mark _ _ _ _ (n .next-word .result) _ (some e) (rw (o .before .part .ensures) at (sym (o .opens-mark .ensures) ∙ c .if2 .taken))) ∙ l .loop .inv .1;
-      forward = (omega (arith, l .loop .inv .0, n .before .loop-test .taken), omega (arith, l .loop .inv .0, n .next-word .ensures .forward (n .before .loop-test .taken)));
+      left = sym (body-mark _ _ _ _ (n .result) _ (some e) (rw (o .before .part .ensures) at (sym (o .opens-mark .ensures) ∙ c .if2 .taken))) ∙ i .1;
+      forward = (omega (arith, i .0, h), omega (arith, i .0, n .ensures .forward h));
     }
 
 -- the word at hand is a change, and what it does
 module _ (c : tie.After-change Inv-loop μ-loop) where
   opens-not :
       let e = c .before .before .before .before .before in
-      let r = now (e .before .before .before .before .before .before .before .before .before .args .recording) in
+      let r = now (e .before .before .before .before .before .before .before .before .args .recording) in
       opensMark (bytesOf r (e .before .before .next-word .result)) ≡ false
   opens-not = let o = c .before .before .before in rw (o .before .part .ensures) at (sym (o .opens-mark .ensures) ∙ c .before .before .if2 .left)
 
   changes :
       let e = c .before .before .before .before .before in
       let w = e .before .before .next-word .result in
-      let l = e .before .before .before .before in
+      let l = e .before .before .before in
       let s = l .before .before .before .before .before .args in
       turnAs (c .change .result) ≡ changeTurn (variablesOf (s .count) (now (s .ids)) (now (s .clocks))) (l .loop .step) (w .start) (bytesOf (now (s .recording)) w)
   changes = c .change .ensures ∙ rw (c .before .part2 .ensures)
@@ -75,32 +77,26 @@ returns-3 c =
     let t = c .before in
     let k = t .before .before in
     let e = k .before .before .before .before .before in
-    let l = e .before .before .before .before in
     record {
-      left = sym (change-stop _ _ _ _ _ _ (some e) (opens-not k) _ (changes k) _ (t .turn .given .1)) ∙ l .loop .inv .1;
+      left = sym (change-stop _ _ _ _ _ _ (some e) (opens-not k) _ (changes k) _ (t .turn .given .1)) ∙ e .before .before .before .loop .inv .1;
       forward = tt;
     }
 
 loop-less : tie.Need-loop-less Inv-loop μ-loop
 loop-less c =
-    let n = c .before .before .before .before .before .before .before .before .before .before in
-    omega (arith, n .next-word .ensures .forward (n .before .loop-test .taken), n .before .loop-test .taken)
+    let e = c .before .before .before .before .before .before .before .before in
+    let n = e .before .before .next-word in
+    let h = within _ _ (n .result) (n .ensures) (e .if1 .left) in
+    omega (arith, n .ensures .forward h, h)
 
 loop-again : tie.Need-loop-again Inv-loop μ-loop
 loop-again c =
     let t = c .before in
     let k = t .before .before in
     let e = k .before .before .before .before .before in
-    let n = e .before .before in
-    let l = n .before .before in
-    (omega (arith, n .next-word .ensures .forward (n .before .loop-test .taken), l .loop .inv .0), sym (change-on _ _ _ _ _ _ (some e) (opens-not k) _ (changes k) _ (t .turn2 .given .1)) ∙ l .loop .inv .1)
-
-returns-4 : tie.Need-returns-4 Inv-loop μ-loop
-returns-4 c =
-    record {
-      left = sym (body-done _ _ _ _ (words-over _ Parting _ (c .loop-test .left))) ∙ c .before .loop .inv .1;
-      forward = tt;
-    }
+    let n = e .before .before .next-word in
+    let i = e .before .before .before .loop .inv in
+    (omega (arith, n .ensures .forward (within _ _ (n .result) (n .ensures) (e .if1 .left)), i .0), sym (change-on _ _ _ _ _ _ (some e) (opens-not k) _ (changes k) _ (t .turn2 .given .1)) ∙ i .1)
 
 pub read-changes-spec : {M : Type 1} → statement M
 read-changes-spec =
@@ -120,5 +116,4 @@ read-changes-spec =
     returns-3
     (λ c. search needs)
     loop-less
-    loop-again
-    returns-4)
+    loop-again)

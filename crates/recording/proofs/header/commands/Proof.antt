@@ -7,14 +7,11 @@ use native.Mathlib.Omega.{arith}
 use denote.Ref.{now}
 use lib.ListN.{length}
 use Rattle.text.specs.Split.{bytesOf}
-use Rattle.text.specs.declared.Class.the-variants.{Parting}
-use Rattle.text.proofs.Runs.{is-last, words-over}
 use Rattle.recording.specs.Header.{words, commandOf, header}
 use Rattle.recording.specs.Variables.{clockNamed}
 use Rattle.recording.specs.Index.{Indexed, declared}
 use Rattle.recording.specs.declared.Command.{Command}
-use Rattle.limit.proofs.CheckLaws.{stops, goes-on, ends-there}
-use Rattle.recording.proofs.HeaderLaws.{header-done, opens-skipped, opens-declaration, opens-definitions, opens-nothing}
+use Rattle.recording.proofs.HeaderLaws.{within, cut-done, skipped-on, declared-stop, declared-on, definitions-done, unknown-stop}
 use borrow.Author.Needs.{needs}
 use Rattle.recording.proofs.header.commands.Statement.{statement}
 use Rattle.recording.proofs.header.commands.Tie as tie
@@ -30,7 +27,7 @@ abbrev μ-loop : tie.MeasureT-loop
 
 -- what the word at hand opens
 opened : (c : tie.After-command Inv-loop μ-loop) (k : Command) → c .command .result ≡ k
-    → commandOf (bytesOf (now (c .before .before .before .before .before .before .before .before .before .before .args .recording)) (c .before .before .before .before .next-word .result)) ≡ k
+    → commandOf (bytesOf (now (c .before .before .before .before .before .before .before .before .before .args .recording)) (c .before .before .before .before .next-word .result)) ≡ k
 opened c k e = rw (c .before .part .ensures) at (sym (c .command .ensures) ∙ e)
 
 loop-holds : tie.Need-loop-holds Inv-loop μ-loop
@@ -38,70 +35,67 @@ loop-holds c = let n = c .none .ensures in (n .1, rw (n .0) refl)
 
 returns : tie.Need-returns Inv-loop μ-loop
 returns c =
-    let w = c .before .before .before .next-word in
-    let l = c .before .before .before .before .before in
+    let w = c .before .before .before in
+    let i = w .before .loop .inv in
     let f = c .refused .ensures in
-    (stops _ _ _ _ (f .0) ∙ sym (header-done _ _ _ _ _ (is-last _ Parting _ (w .result) (w .ensures) (c .before .if1 .taken))) ∙ l .loop .inv .1, rw (f .1) (l .loop .inv .0))
+    (cut-done _ _ _ _ _ (w .next-word .result) (w .next-word .ensures) _ (i .1) (c .before .if1 .taken) _ _ (f .0), rw (f .1) (i .0))
 
 loop-less : tie.Need-loop-less Inv-loop μ-loop
 loop-less c =
-    let k = c .before .before .before in
-    let w = k .before .before .before .before in
-    omega (arith, c .after-end .ensures .forward _ (w .next-word .ensures .forward (w .before .loop-test .taken)) (w .before .loop-test .taken), w .before .loop-test .taken)
+    let e = c .before .before .before .before .before in
+    let w = e .before .before .next-word in
+    let h = within _ _ (w .result) (w .ensures) (e .if1 .left) in
+    omega (arith, c .after-end .ensures .forward _ (w .ensures .forward h) h, h)
 
 loop-again : tie.Need-loop-again Inv-loop μ-loop
 loop-again c =
     let k = c .before .before .before in
-    let w = k .before .before .before .before .next-word in
-    let l = k .before .before .before .before .before .before in
-    (l .loop .inv .0, sym (opens-skipped _ _ _ _ _ (w .result) (w .ensures) (k .before .before .if1 .left) (opened k _ (c .before .enum-told .given .1)) _ (c .after-end .ensures)) ∙ l .loop .inv .1)
+    let e = k .before .before in
+    let w = e .before .before in
+    let i = w .before .loop .inv in
+    (i .0, skipped-on _ _ _ _ _ (w .next-word .result) (w .next-word .ensures) _ (i .1) (e .if1 .left) (opened k _ (c .before .enum-told .given .1)) _ (c .after-end .ensures))
 
 returns-2 : tie.Need-returns-2 Inv-loop μ-loop
 returns-2 c =
-    let d = c .before .before .declaration in
-    let k = c .before .before .before .before .before in
-    let w = k .before .before .before .before .next-word in
-    let l = k .before .before .before .before .before .before in
-    let m = opens-declaration _ _ _ _ _ (w .result) (w .ensures) (k .before .before .if1 .left) (opened k _ (c .before .before .before .enum-told2 .given .1)) in
-    (sym (ends-there _ _ _ _ (c .enum-told3 .given .1)) ∙ sym (d .ensures .says) ∙ sym m ∙ l .loop .inv .1, d .ensures .indexed)
+    let d = c .before .before in
+    let k = d .before .before .before in
+    let e = k .before .before in
+    let w = e .before .before in
+    (declared-stop _ _ _ _ _ (w .next-word .result) (w .next-word .ensures) _ (w .before .loop .inv .1) (e .if1 .left) (opened k _ (d .before .enum-told2 .given .1)) (d .declaration .result) (d .declaration .ensures) _ (c .enum-told3 .given .1), d .declaration .ensures .indexed)
 
 loop-less-2 : tie.Need-loop-less-2 Inv-loop μ-loop
 loop-less-2 c =
-    let d = c .before .before .before .declaration in
-    let k = c .before .before .before .before .before .before in
-    let w = k .before .before .before .before in
-    omega (arith, d .ensures .forward (c .before .enum-told4 .given .1), w .next-word .ensures .forward (w .before .loop-test .taken), w .before .loop-test .taken)
+    let d = c .before .before .before in
+    let e = d .before .before .before .before .before in
+    let w = e .before .before .next-word in
+    let h = within _ _ (w .result) (w .ensures) (e .if1 .left) in
+    omega (arith, d .declaration .ensures .forward (c .before .enum-told4 .given .1), w .ensures .forward h, h)
 
 loop-again-2 : tie.Need-loop-again-2 Inv-loop μ-loop
 loop-again-2 c =
-    let d = c .before .before .before .declaration in
-    let k = c .before .before .before .before .before .before in
-    let w = k .before .before .before .before .next-word in
-    let l = k .before .before .before .before .before .before in
-    let m = opens-declaration _ _ _ _ _ (w .result) (w .ensures) (k .before .before .if1 .left) (opened k _ (c .before .before .before .before .enum-told2 .given .1)) in
-    (d .ensures .indexed, sym (goes-on _ _ _ (c .before .enum-told4 .given .1)) ∙ sym (d .ensures .says) ∙ sym m ∙ l .loop .inv .1)
+    let d = c .before .before .before in
+    let k = d .before .before .before in
+    let e = k .before .before in
+    let w = e .before .before in
+    (d .declaration .ensures .indexed, declared-on _ _ _ _ _ (w .next-word .result) (w .next-word .ensures) _ (w .before .loop .inv .1) (e .if1 .left) (opened k _ (d .before .enum-told2 .given .1)) (d .declaration .result) (d .declaration .ensures) (c .before .enum-told4 .given .1))
 
 returns-3 : tie.Need-returns-3 Inv-loop μ-loop
 returns-3 c =
     let k = c .before .before .before in
-    let w = k .before .before .before .before .next-word in
-    let l = k .before .before .before .before .before .before in
+    let e = k .before .before in
+    let w = e .before .before in
+    let i = w .before .loop .inv in
     let d = c .close .ensures in
-    (d .0 ∙ sym (opens-definitions _ _ _ _ _ (w .result) (w .ensures) (k .before .before .if1 .left) (opened k _ (c .before .enum-told5 .given .1))) ∙ l .loop .inv .1, rw (d .1) (l .loop .inv .0))
+    (definitions-done _ _ _ _ _ (w .next-word .result) (w .next-word .ensures) _ (i .1) (e .if1 .left) (opened k _ (c .before .enum-told5 .given .1)) _ (d .0), rw (d .1) (i .0))
 
 returns-4 : tie.Need-returns-4 Inv-loop μ-loop
 returns-4 c =
     let k = c .before .before .before in
-    let w = k .before .before .before .before .next-word in
-    let l = k .before .before .before .before .before .before in
+    let e = k .before .before in
+    let w = e .before .before in
+    let i = w .before .loop .inv in
     let f = c .refused2 .ensures in
-    (stops _ _ _ _ (f .0) ∙ sym (opens-nothing _ _ _ _ _ (w .result) (w .ensures) (k .before .before .if1 .left) (opened k _ (c .before .enum-told6 .given .1))) ∙ l .loop .inv .1, rw (f .1) (l .loop .inv .0))
-
-returns-5 : tie.Need-returns-5 Inv-loop μ-loop
-returns-5 c =
-    let l = c .before .before in
-    let f = c .refused3 .ensures in
-    (stops _ _ _ _ (f .0) ∙ sym (header-done _ _ _ _ _ (words-over _ Parting _ (c .before .loop-test .left))) ∙ l .loop .inv .1, rw (f .1) (l .loop .inv .0))
+    (unknown-stop _ _ _ _ _ (w .next-word .result) (w .next-word .ensures) _ (i .1) (e .if1 .left) (opened k _ (c .before .enum-told6 .given .1)) _ _ (f .0), rw (f .1) (i .0))
 
 pub commands-spec : {M : Type 1} → statement M
 commands-spec =
@@ -132,6 +126,4 @@ commands-spec =
     returns-3
     (λ c. search needs)
     (λ c κs. search needs)
-    returns-4
-    (λ c κs. search needs)
-    returns-5)
+    returns-4)

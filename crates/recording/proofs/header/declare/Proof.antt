@@ -22,12 +22,12 @@ fits : (c : tie.Else1) → let s = c .before .before .before .before .args in sh
 fits c = sym (c .before .shaped .ensures) ∙ not-false (c .before .shaped .result) (c .if1 .left)
 
 -- the clock of the variable's name
-clock-is : (c : tie.After-clock-named) → let s = c .before .before .before .before .before .before .before .before .args in c .clock-named .result ≡ clockNamed (now (s .table)) (s .names) (bytesOf (now (s .recording)) (s .words .name))
+clock-is : (c : tie.After-clock-named) → let s = c .before .before .before .before .before .before .args in c .clock-named .result ≡ clockNamed (now (s .table)) (s .names) (bytesOf (now (s .recording)) (s .words .name))
 clock-is c = c .clock-named .ensures ∙ rw (c .before .part .ensures)
 
 -- what the two tests of 34 answer
 twice-is : (c : tie.After-clock-again) →
-    let s = c .before .before .before .before .before .before .before .before .before .before .before .args in
+    let s = c .before .before .before .before .before .before .before .before .before .args in
     (c .before .is-declared .result || c .clock-again .result)
     ≡ (isDeclared (lookUp (declared (s .variables)) (bytesOf (now (s .recording)) (s .words .id))) || clockAgain (declared (s .variables)) (clockNamed (now (s .table)) (s .names) (bytesOf (now (s .recording)) (s .words .name))))
 twice-is c =
@@ -50,7 +50,7 @@ returns c =
 returns-2 : tie.Need-returns-2
 returns-2 c =
     let g = c .before .before in
-    let e = g .before .before .before .before .before .before .before in
+    let e = g .before .before .before .before .before in
     let u = c .undeclared2 .ensures in
     (u .0 ∙ sym (declare-twice _ _ _ _ _ _ _ _ _ (fits e) (sym (twice-is g) ∙ c .before .if2 .taken)), rw (u .1) (e .before .before .before .before .pre))
 
@@ -58,14 +58,14 @@ returns-3 : tie.Need-returns-3
 returns-3 c =
     let n = c .before .before .before in
     let g = n .before in
-    let e = g .before .before .before .before .before .before .before in
+    let e = g .before .before .before .before .before in
     let s = e .before .before .before .before in
     let u = c .undeclared3 .ensures in
     (u .0 ∙ sym (declare-full _ _ _ _ _ _ _ _ _ (fits e) (sym (twice-is g) ∙ n .if2 .left) (omega (arith, count-is s, c .before .if3 .taken))), rw (u .1) (s .pre))
 
 code-requires : tie.Need-code-requires
 code-requires c κs =
-    let e = c .before .before .before .before .before .before .before .before .before .before .before in
+    let e = c .before .before .before .before .before .before .before .before .before in
     let w = e .before .before .before .before .args .words in
     rw (c .part3 .ensures) (shaped-short _ (w .kind) (w .width) (w .id) (w .last) (fits e))
 
@@ -75,7 +75,7 @@ returns-4 c =
     let p = k .before in
     let n = p .before .before .before in
     let g = n .before in
-    let e = g .before .before .before .before .before .before .before in
+    let e = g .before .before .before .before .before in
     let s = e .before .before .before .before in
     let w = s .args .words in
     let b = p .part3 .ensures in

@@ -1,5 +1,5 @@
 -- `skips` meets its contract: six comparisons. Assumes nothing.
-use mathlib.Core.Path.{refl}
+use Rattle.recording.proofs.HeaderLaws.{or-same}
 use borrow.Author.Needs.{needs}
 use Rattle.recording.proofs.header.skips.Statement.{statement}
 use Rattle.recording.proofs.header.skips.Tie as tie
@@ -11,7 +11,7 @@ returns c =
     let d = b .before .before in
     let e = d .before .before in
     let f = e .before .before in
-    rw (c .same-bytes6 .ensures, a .same-bytes5 .ensures, b .same-bytes4 .ensures, d .same-bytes3 .ensures, e .same-bytes2 .ensures, f .same-bytes .ensures) refl
+    or-same (or-same (or-same (or-same (or-same (f .same-bytes .ensures) (e .same-bytes2 .ensures)) (d .same-bytes3 .ensures)) (b .same-bytes4 .ensures)) (a .same-bytes5 .ensures)) (c .same-bytes6 .ensures)
 
 pub skips-spec : {M : Type 1} → statement M
 skips-spec =
