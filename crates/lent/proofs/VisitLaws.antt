@@ -44,9 +44,12 @@ stayed-else (Moves v) h = refl
 -- ---- what a record adds
 
 module _ (s : Survey) (i : ℕ) (r : Constraint) (w : Word) {f : Fitted} {a : Seen} (e : f ≡ fitted (s .clocks) (s .earlier) r) (q : a ≡ looked r w (bits (s .ticks))) where
-  pub visit-adds : added s i f a w ≡ visited s i r w
+  visit-adds : added s i f a w ≡ visited s i r w
   unfolding visited
   visit-adds = rw (e, q)
+
+  pub visit-is : {x : Survey} → x ≡ added s i f a w → x ≡ visited s i r w
+  visit-is p = p ∙ visit-adds
 
   -- where nothing is amiss
   pub fine-adds : (x : Word) → f .fits ≡ true → a ≡ Moves x

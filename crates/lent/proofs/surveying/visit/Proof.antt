@@ -1,6 +1,5 @@
 -- `visit` meets its contract: where the record fits and its word moves nothing is amiss. Assumes nothing.
-use mathlib.Core.Path.{_∙_}
-use Rattle.lent.proofs.VisitLaws.{visit-adds, fine-adds}
+use Rattle.lent.proofs.VisitLaws.{visit-is, fine-adds}
 use Rattle.lent.proofs.surveying.visit.Statement.{statement}
 use Rattle.lent.proofs.surveying.visit.Tie as tie
 
@@ -14,7 +13,7 @@ returns-2 : tie.Need-returns-2
 returns-2 c =
     let l = c .before .before in
     let s = l .before .before .before .args in
-    c .add .ensures ∙ visit-adds (s .survey) (s .i) (s .constraint) (s .w) (l .before .fit .ensures) (l .look .ensures)
+    visit-is (s .survey) (s .i) (s .constraint) (s .w) (l .before .fit .ensures) (l .look .ensures) (c .add .ensures)
 
 pub visit-spec : {M : Type 1} → statement M
 visit-spec =
