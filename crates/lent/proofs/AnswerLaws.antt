@@ -1,6 +1,8 @@
--- What the two answers at the end of the walk are, by the places found: the first check that finds one decides. Assumes nothing.
+-- What the answers at the end of the two walks are, by the places found: the first check that finds one decides. Assumes nothing.
 use mathlib.Core.Path.{_≡_}
 use mathlib.Core.Bool.{cond}
+use mathlib.Core.List.{List}
+use Prim.Native.Nat.{ℕ}
 use Rattle.limit.specs.declared.Limit.{Limit}
 use Rattle.limit.specs.declared.Limit.the-variants.{Records, ConfigurationWord, TickSet, Million}
 use Rattle.limit.specs.declared.Place.{Place}
@@ -8,10 +10,14 @@ use Rattle.constraint.specs.SamePlace as same
 use Rattle.constraint.specs.declared.Broken.the-variants.{Nowhere, At}
 use Rattle.constraint.specs.declared.Configuration.{Configuration}
 use Rattle.constraint.specs.declared.SamePlace.the-variants.{Refused as RefusedSame}
+use Rattle.constraint.specs.declared.Word.{Word}
 use Rattle.judging.specs.Single.{stepTold, beyondClocks}
-use Rattle.lent.specs.Survey.{unfitAt, outAt, concluded, concludedSame}
 use Rattle.judging.specs.declared.StepAnswer.the-variants.{Accepted, Violated, Refused}
 use Rattle.judging.specs.declared.Stepped.{Stepped}
+use Rattle.lent.specs.Compare.{concludedSame}
+use Rattle.lent.specs.Places.{placed, unfitAt, outAt}
+use Rattle.lent.specs.Survey.{concluded}
+use Rattle.lent.specs.declared.Comparison.{Comparison}
 use Rattle.lent.specs.declared.Survey.{Survey}
 
 -- ---- the single step
@@ -19,48 +25,52 @@ use Rattle.lent.specs.declared.Survey.{Survey}
 abbrev refused : Limit → Place → Configuration → Stepped
 refused l p c = record { answer = Refused (record { limit = l; place = p }); configuration = c }
 
-module _ (s : Survey) where
-  pub refused-59 : (p : Place) → unfitAt s ≡ At p → concluded s ≡ stepTold (refused Records p (s .before))
+module _ (s : Survey) (n : ℕ) (b a : Configuration) where
+  pub refused-59 : (p : Place) → unfitAt (s .clocks) (s .unfit) n ≡ At p → concluded s n b a ≡ stepTold (refused Records p b)
   unfolding concluded
   refused-59 p e = rw e
 
-  module _ (p59 : unfitAt s ≡ Nowhere) where
-    pub refused-60 : (p : Place) → outAt s ≡ At p → concluded s ≡ stepTold (refused ConfigurationWord p (s .before))
+  module _ (p59 : unfitAt (s .clocks) (s .unfit) n ≡ Nowhere) where
+    pub refused-60 : (p : Place) → outAt (s .out) n (b .words) ≡ At p → concluded s n b a ≡ stepTold (refused ConfigurationWord p b)
     unfolding concluded
     refused-60 p e = rw (p59, e)
 
-    module _ (p60 : outAt s ≡ Nowhere) where
-      pub refused-61 : (p : Place) → beyondClocks (s .clocks) (s .ticks) ≡ At p → concluded s ≡ stepTold (refused TickSet p (s .before))
+    module _ (p60 : outAt (s .out) n (b .words) ≡ Nowhere) where
+      pub refused-61 : (p : Place) → beyondClocks (s .clocks) (s .ticks) ≡ At p → concluded s n b a ≡ stepTold (refused TickSet p b)
       unfolding concluded
       refused-61 p e = rw (p59, p60, e)
 
       module _ (p61 : beyondClocks (s .clocks) (s .ticks) ≡ Nowhere) where
-        pub violated : (p : Place) → s .failing ≡ At p → concluded s ≡ stepTold (record { answer = Violated p; configuration = s .before })
+        pub violated : (p : Place) → placed (s .failing) Nowhere ≡ At p → concluded s n b a ≡ stepTold (record { answer = Violated p; configuration = b })
         unfolding concluded
         violated p e = rw (p59, p60, p61, e)
 
-        module _ (held : s .failing ≡ Nowhere) where
-          pub refused-51 : (p : Place) → s .past ≡ At p → concluded s ≡ stepTold (refused Million p (s .before))
+        module _ (held : placed (s .failing) Nowhere ≡ Nowhere) where
+          pub refused-51 : (p : Place) → placed (s .past) Nowhere ≡ At p → concluded s n b a ≡ stepTold (refused Million p b)
           unfolding concluded
           refused-51 p e = rw (p59, p60, p61, held, e)
 
-          pub accepted : s .past ≡ Nowhere → concluded s ≡ stepTold (record { answer = Accepted; configuration = s .after })
+          pub accepted : placed (s .past) Nowhere ≡ Nowhere → concluded s n b a ≡ stepTold (record { answer = Accepted; configuration = a })
           unfolding concluded
           accepted e = rw (p59, p60, p61, held, e)
 
 -- ---- the same-place question
 
-module _ (a b : Survey) where
-  pub same-refused-59 : (p : Place) → unfitAt a ≡ At p → concludedSame a b ≡ same.answer (RefusedSame (record { limit = Records; place = p }))
+module _ (k : Comparison) (n : ℕ) (ws vs : List Word) where
+  pub same-refused-59 : (p : Place) → unfitAt (k .clocks) (k .unfit) n ≡ At p → concludedSame k n ws vs ≡ same.answer (RefusedSame (record { limit = Records; place = p }))
+  unfolding concludedSame
   same-refused-59 p e = rw e
 
-  module _ (p59 : unfitAt a ≡ Nowhere) where
-    pub first-refused-60 : (p : Place) → outAt a ≡ At p → concludedSame a b ≡ same.answer (RefusedSame (record { limit = ConfigurationWord; place = p }))
+  module _ (p59 : unfitAt (k .clocks) (k .unfit) n ≡ Nowhere) where
+    pub first-refused-60 : (p : Place) → outAt (k .first) n ws ≡ At p → concludedSame k n ws vs ≡ same.answer (RefusedSame (record { limit = ConfigurationWord; place = p }))
+    unfolding concludedSame
     first-refused-60 p e = rw (p59, e)
 
-    module _ (p60 : outAt a ≡ Nowhere) where
-      pub second-refused-60 : (p : Place) → outAt b ≡ At p → concludedSame a b ≡ same.answer (RefusedSame (record { limit = ConfigurationWord; place = p }))
+    module _ (p60 : outAt (k .first) n ws ≡ Nowhere) where
+      pub second-refused-60 : (p : Place) → outAt (k .second) n vs ≡ At p → concludedSame k n ws vs ≡ same.answer (RefusedSame (record { limit = ConfigurationWord; place = p }))
+      unfolding concludedSame
       second-refused-60 p e = rw (p59, p60, e)
 
-      pub compared : outAt b ≡ Nowhere → concludedSame a b ≡ cond (same.sameWords (a .before .words) (b .before .words)) same.same same.different
-      compared q60 = rw (p59, p60, q60)
+      pub compares : outAt (k .second) n vs ≡ Nowhere → concludedSame k n ws vs ≡ cond (k .same) same.same same.different
+      unfolding concludedSame
+      compares q60 = rw (p59, p60, q60)

@@ -36,11 +36,9 @@ use Rattle.constraint.proofs.Configuration.Laws as C′
 use Rattle.constraint.proofs.Constraint as R
 use Rattle.lent.specs.Lent.{atMost, movedTo}
 use Rattle.judging.specs.Single.{stepTold, stepOf}
-use Rattle.lent.specs.Survey.{begins, surveyed}
 use Rattle.lent.specs.declared.Monitor.{Monitor}
 use Rattle.judging.specs.declared.StepAnswer.{StepAnswer}
 use Rattle.judging.specs.declared.Stepped.{Stepped}
-use Rattle.lent.specs.declared.Survey.{Survey}
 use Rattle.lent.proofs.Elem.{slice, OwnSlice}
 use Rattle.lent.proofs.LentTypes.{clockVals}
 use Rattle.lent.proofs.Monitor as M
@@ -48,12 +46,8 @@ use Rattle.lent.proofs.walks.advance as advance
 use Rattle.lent.proofs.walks.at_most as at-most
 use Rattle.lent.proofs.walks.same_place as same-place
 use Rattle.lent.proofs.walks.step as step
-use Rattle.lent.proofs.walks.survey as survey
 
 module _ {𝓜 : Type 1} (𝓤 : URA 𝓜) (H : Heap 𝓤) (A : Atoms 𝓤) (mem : Memory → SProp 𝓤) (run : Routine → Fun 𝓤) where
-  abbrev pub Surveys : Contract 𝓤
-  Surveys = tripleOf 𝓤 H A survey.signature (survey.spec 𝓤 H A mem run)
-
   abbrev pub Steps : Contract 𝓤
   Steps = tripleOf 𝓤 H A step.signature (step.spec 𝓤 H A mem run)
 
@@ -80,29 +74,16 @@ module _ {𝓜 : Type 1} (𝓤 : URA 𝓜) (H : Heap 𝓤) (A : Atoms 𝓤) (mem
     pub said-at-most : (m : ℕ) → ent 𝓤 (Clamped m) (fact 𝓤 (m ≡ atMost count))
     said-at-most m = exE 𝓤 _ (λ us. snd∗ 𝓤 (sem 𝓤 H A (lasts at-most.ended tt (count, tt) us)) (fact 𝓤 (m ≡ atMost count)))
 
-  -- ---- `survey` and `step`, on records lent at any lifetime, share and name
+  -- ---- `step`, on records lent at any lifetime, share and name
   module _ (κ : Lft) (q : Share) (b o : ℕ) (γ : GName) (ys : List Constraint) (clocks : Clocks) (c : Configuration) (ticks : ℕ) (cv : Val) where
-    abbrev pub to-survey : Surveys .Ghost
-    to-survey = (((κ, tt), (q, tt), tt, (slice R.the-row b o γ ys, (clocks, (c, (ticks, tt)))), (sliceVal (b, o) (length ys) ∷ [], (clockVals clocks, (cv ∷ [], (vint w32 ticks ∷ [], tt))))), tt)
-
-    pub asked-survey : Given 𝓤 H A → Is K.the-row clocks (clockVals clocks) → Is C.the-row c (cv ∷ []) → Is u32 ticks (vint w32 ticks ∷ [])
-        → ent 𝓤 (sep 𝓤 (sem 𝓤 H A (OwnSlice R.the-row (named 0) κ b o γ ys)) (A .lft κ q)) (Surveys .pre to-survey)
-    asked-survey W is-n is-c is-t = qed W (‵ (OwnSlice R.the-row (named 0) κ b o γ ys) ∷ ‵ (flft κ q) ∷ []) ∵ nothing ! $ owned ! u32 (Is u32) (uint-makes 𝓤 H A W w32) ticks _ is-t $ fjoin ! $
-        owned ! C.the-row (Is C.the-row) (LL.makes C.the-type C′.the-plain 𝓤 H A) c _ is-c $ fjoin ! $ owned ! K.the-row (Is K.the-row) (LL.makes K.the-type K′.the-plain 𝓤 H A) clocks _ is-n $ fjoin ! $
-        move ! (1 ∷ 0 ∷ []) $ fjoin ! $ nothing ! $ move ! (2 ∷ 0 ∷ []) $ join ! $ join ! $ frame ! $ done !
-
-    abbrev pub Surveyed : Survey → SProp 𝓤
-    Surveyed s = ensured 𝓤 H A survey.ended (survey.clauses 𝓤 H A mem run) (κ, tt) (slice R.the-row b o γ ys, (clocks, (c, (ticks, tt)))) tt s
-
-    pub said-survey : (s : Survey) → ent 𝓤 (Surveyed s) (fact 𝓤 (s ≡ surveyed (begins clocks c ticks) ys))
-    said-survey s = exE 𝓤 _ (λ us. snd∗ 𝓤 (sem 𝓤 H A (lasts survey.ended (κ, tt) (slice R.the-row b o γ ys, (clocks, (c, (ticks, tt)))) us)) (fact 𝓤 (s ≡ surveyed (begins clocks c ticks) ys)))
-
     abbrev pub to-step : Steps .Ghost
     to-step = (((κ, tt), (q, tt), tt, (slice R.the-row b o γ ys, (clocks, (c, (ticks, tt)))), (sliceVal (b, o) (length ys) ∷ [], (clockVals clocks, (cv ∷ [], (vint w32 ticks ∷ [], tt))))), tt)
 
     pub asked-step : Given 𝓤 H A → Is K.the-row clocks (clockVals clocks) → Is C.the-row c (cv ∷ []) → Is u32 ticks (vint w32 ticks ∷ [])
         → ent 𝓤 (sep 𝓤 (sem 𝓤 H A (OwnSlice R.the-row (named 0) κ b o γ ys)) (A .lft κ q)) (Steps .pre to-step)
-    asked-step = asked-survey
+    asked-step W is-n is-c is-t = qed W (‵ (OwnSlice R.the-row (named 0) κ b o γ ys) ∷ ‵ (flft κ q) ∷ []) ∵ nothing ! $ owned ! u32 (Is u32) (uint-makes 𝓤 H A W w32) ticks _ is-t $ fjoin ! $
+        owned ! C.the-row (Is C.the-row) (LL.makes C.the-type C′.the-plain 𝓤 H A) c _ is-c $ fjoin ! $ owned ! K.the-row (Is K.the-row) (LL.makes K.the-type K′.the-plain 𝓤 H A) clocks _ is-n $ fjoin ! $
+        move ! (1 ∷ 0 ∷ []) $ fjoin ! $ nothing ! $ move ! (2 ∷ 0 ∷ []) $ join ! $ join ! $ frame ! $ done !
 
     abbrev pub Told : Stepped → SProp 𝓤
     Told r = ensured 𝓤 H A step.ended (step.clauses 𝓤 H A mem run) (κ, tt) (slice R.the-row b o γ ys, (clocks, (c, (ticks, tt)))) tt r

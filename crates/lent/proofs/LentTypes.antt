@@ -25,6 +25,7 @@ use Rattle.lent.specs.declared.Advanced.{Advanced}
 use Rattle.lent.specs.declared.Monitor.{Monitor}
 use Rattle.judging.specs.declared.StepAnswer.{StepAnswer}
 use Rattle.judging.specs.declared.Stepped.{Stepped}
+use Rattle.lent.specs.declared.Comparison.{Comparison}
 use Rattle.lent.specs.declared.Survey.{Survey}
 use Rattle.lent.proofs.Advanced as D
 use Rattle.lent.proofs.Advanced.Laws as D′
@@ -34,10 +35,10 @@ use Rattle.judging.proofs.StepAnswer as A
 use Rattle.judging.proofs.StepAnswer.Laws as A′
 use Rattle.judging.proofs.Stepped as T
 use Rattle.judging.proofs.Stepped.Laws as T′
-use Rattle.lent.proofs.Survey as S
+use Rattle.lent.proofs.Comparison.Laws as P′
 use Rattle.lent.proofs.Survey.Laws as S′
 
--- of a record, of a table's clocks, of a configuration and of what is known
+-- of a record, of a table's clocks and of a configuration
 abbrev pub recordVals : Constraint → List Val
 recordVals = LL.vals R.the-type R′.the-laws
 
@@ -47,12 +48,16 @@ clockVals = LL.vals K.the-type K′.the-laws
 abbrev pub wordVals : Configuration → List Val
 wordVals = LL.vals C.the-type C′.the-laws
 
-abbrev pub knownVals : Survey → List Val
-knownVals = LL.vals S.the-type S′.the-laws
-
 -- the bytes of a record
 abbrev pub recordSize : ℕ
 recordSize = mem R.the-row .size
+
+-- of what is known of the first records, field by field
+abbrev pub knownVals : Survey → List Val
+knownVals s = S′.lowered s ∷ []
+
+abbrev pub comparisonVals : Comparison → List Val
+comparisonVals k = P′.lowered k ∷ []
 
 abbrev pub lentRecords : Lifetime → Ty
 lentRecords ℓ = sliceTy (tyRef ℓ imm (pointee (R.the-row .written)))

@@ -1,3 +1,5 @@
+pub mod Compare
 pub mod Lent
+pub mod Places
 pub mod Start
 pub mod Survey

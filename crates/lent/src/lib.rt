@@ -1,12 +1,14 @@
 // The single step and the same-place question on lent records, and the monitor that is lent and moved forward where it stands.
 
+mod comparing;
+mod places;
 mod start;
 mod surveying;
 mod walks;
 
-use constraint::Broken;
 use constraint::Clocks;
 use constraint::Configuration;
+use constraint::Word;
 use judging::StepAnswer;
 use limit::Check;
 pub use start::start_on;
@@ -17,19 +19,28 @@ pub use walks::same_place_on;
 pub use walks::step;
 pub use walks::step_on;
 
-// What is known of the records so far: the words after the step, the clocks that they define, and the lowest place of a record that does
-// not fit, of a word out of range, of a record that fails, and of a word that leaves its million.
+// What a step knows of the first records: the clocks that they define; the lowest place, from 1, of a record that does not fit, of a word out of
+// range, of a record that fails, and of a word that leaves its million, each 0 where there is none; and the last of their words after the step.
 pub struct Survey {
     pub clocks: Clocks,
     pub ticks: u32,
-    pub before: Configuration,
-    pub after: Configuration,
-    pub place: usize,
     pub earlier: u32,
-    pub unfit: Broken,
-    pub out: Broken,
-    pub failing: Broken,
-    pub past: Broken,
+    pub unfit: usize,
+    pub out: usize,
+    pub failing: usize,
+    pub past: usize,
+    pub word: Word,
+}
+
+// What the same-place question knows of the first records: the clocks that they define; the lowest place of a record that does not fit, and of a
+// word of the first and of the second configuration that is out of range, each 0 where there is none; and whether their words are the same.
+pub struct Comparison {
+    pub clocks: Clocks,
+    pub earlier: u32,
+    pub unfit: usize,
+    pub first: usize,
+    pub second: usize,
+    pub same: bool,
 }
 
 // A monitor: where it stands.

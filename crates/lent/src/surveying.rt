@@ -1,165 +1,123 @@
-// The single step and the same-place question as one walk over records: what each record adds, and the answer at the end.
+// The single step as a walk over records: what each record adds, and the answer at the end.
 use super::Survey;
+use super::places::lowest;
+use super::places::out_at;
+use super::places::place_of;
+use super::places::unfit_at;
 use constraint::Broken;
 use constraint::Clocks;
 use constraint::Configuration;
 use constraint::Constraint;
-use constraint::SamePlace;
+use constraint::Fitted;
+use constraint::Seen;
+use constraint::Word;
 use judging::StepAnswer;
 use judging::Stepped;
 use limit::Limit;
 use limit::Place;
 use limit::Refusal;
 ghost use mathlib.Core.Path.{_≡_};
-ghost use mathlib.Core.List.{[]};
-ghost use Prim.Native.Nat.{_+_, _-_};
-ghost use lib.ListN.{drop};
-ghost use Rattle.constraint.specs.Lists.{firstOut};
-ghost use Rattle.constraint.specs.SamePlace.{answer};
 ghost use Rattle.judging.specs.Single.{stepTold, beyondClocks};
 ghost use Rattle.lent.specs.Survey as s;
 
 // Before the first record.
-pub fn begin(clocks: Clocks, configuration: Configuration, ticks: u32) -> Survey
-    ensures { λ r. ⌜ r ≡ s.begins clocks configuration ticks ⌝ }
+pub fn begin(clocks: Clocks, ticks: u32) -> Survey
+    ensures { λ r. ⌜ r ≡ s.begins clocks ticks ⌝ }
 {
     Survey {
         clocks,
         ticks,
-        before: configuration,
-        after: configuration,
-        place: 1,
         earlier: 0,
-        unfit: Broken::Nowhere,
-        out: Broken::Nowhere,
-        failing: Broken::Nowhere,
-        past: Broken::Nowhere,
+        unfit: 0,
+        out: 0,
+        failing: 0,
+        past: 0,
+        word: Word(0),
     }
 }
 
-// The lowest place at which a test fails.
-fn lowest(known: Broken, passes: bool, place: usize) -> Broken
-    ensures { λ r. ⌜ r ≡ s.lowest known passes place ⌝ }
+// The word is in range.
+fn inside(seen: Seen) -> bool
+    ensures { λ r. ⌜ r ≡ s.inside seen ⌝ }
 {
-    if let Broken::At(earlier) = known {
-        return Broken::At(earlier);
+    if let Seen::Out = seen {
+        return false;
     }
-    if passes {
-        return Broken::Nowhere;
-    }
-    Broken::At(Place(place))
+    true
 }
 
-// The index of a place's word.
-fn index(place: usize) -> usize
-    ensures { λ r. ⌜ r ≡ place - 1 ⌝ }
+// The record does not fail.
+fn held(seen: Seen) -> bool
+    ensures { λ r. ⌜ r ≡ s.held seen ⌝ }
 {
-    if place == 0 { 0 } else { place - 1 }
+    if let Seen::Fails = seen {
+        return false;
+    }
+    true
 }
 
-// What a record adds: whether it fits, and, where there is a word for it and it is in range, what the rule says of it.
-pub fn visit(survey: Survey, constraint: Constraint) -> Survey
-    ensures { λ r. ⌜ r ≡ s.visited survey constraint ⌝ }
+// The word does not leave its million.
+fn stayed(seen: Seen) -> bool
+    ensures { λ r. ⌜ r ≡ s.stayed seen ⌝ }
+{
+    if let Seen::Leaves(_) = seen {
+        return false;
+    }
+    true
+}
+
+// The word after the step, w where it is not taken.
+fn after(seen: Seen, w: Word) -> Word
+    ensures { λ r. ⌜ r ≡ s.after seen w ⌝ }
+{
+    match seen {
+        Seen::Out => w,
+        Seen::Fails => w,
+        Seen::Leaves(v) => v,
+        Seen::Moves(v) => v,
+    }
+}
+
+// What a record adds, by how it fits and what the step comes to for it.
+fn add(survey: Survey, i: usize, fitted: Fitted, seen: Seen, w: Word) -> Survey
+    ensures { λ r. ⌜ r ≡ s.added survey i fitted seen w ⌝ }
 {
     let clocks = survey.clocks;
-    let ticks = survey.ticks;
-    let before = survey.before;
-    let after = survey.after;
-    let place = survey.place;
-    let unfit = survey.unfit;
-    let out = survey.out;
-    let failing = survey.failing;
-    let past = survey.past;
-    let fits = constraint::record_fits(clocks, survey.earlier, place, constraint);
-    let unfit = lowest(unfit, fits, place);
-    let earlier = constraint::with_defined(survey.earlier, constraint);
-    if 64 < place {
-        return Survey {
-            clocks,
-            ticks,
-            before,
-            after,
-            place,
-            earlier,
-            unfit,
-            out,
-            failing,
-            past,
-        };
-    }
-    let i = index(place);
-    let w = before.words[i];
-    let inside = constraint::in_range(constraint, w);
-    let out = lowest(out, inside, place);
-    if !inside {
-        return Survey {
-            clocks,
-            ticks,
-            before,
-            after,
-            place: place + 1,
-            earlier,
-            unfit,
-            out,
-            failing,
-            past,
-        };
-    }
-    let failing = lowest(failing, constraint::holds(constraint, w, ticks), place);
-    let v = constraint::next_word(constraint, w, ticks);
-    let past = lowest(past, constraint::in_million(constraint, v), place);
-    let mut after = after;
-    after.words[i] = v;
+    let place = place_of(i);
     Survey {
         clocks,
-        ticks,
-        before,
-        after,
-        place: place + 1,
-        earlier,
-        unfit,
-        out,
-        failing,
-        past,
+        ticks: survey.ticks,
+        earlier: fitted.defined,
+        unfit: lowest(survey.unfit, fitted.fits, place),
+        out: lowest(survey.out, inside(seen), place),
+        failing: lowest(survey.failing, held(seen), place),
+        past: lowest(survey.past, stayed(seen), place),
+        word: after(seen, w),
     }
 }
 
-// Limit 59: a clock count over 32, or the first record that does not fit.
-fn unfit_at(survey: Survey) -> Broken
-    ensures { λ r. ⌜ r ≡ s.unfitAt survey ⌝ }
+// What record i and its word add. Where nothing is amiss, that is the clocks that it defines, and its word.
+pub fn visit(survey: Survey, i: usize, constraint: Constraint, w: Word) -> Survey
+    ensures { λ r. ⌜ r ≡ s.visited survey i constraint w ⌝ }
 {
     let clocks = survey.clocks;
-    if !constraint::counts_fit(clocks) {
-        return Broken::At(Place(0));
-    }
-    survey.unfit
-}
-
-// The first word from an index on that is not 0.
-fn first_beyond(configuration: Configuration, from: usize) -> Broken
-    ensures { λ r. ⌜ r ≡ firstOut (from + 1) [] (drop from (configuration .words)) ⌝ }
-{
-    let mut i = from;
-    while i < 64 {
-        let w = configuration.words[i];
-        if !constraint::in_range(constraint::empty(), w) {
-            return Broken::At(Place(i + 1));
+    let fitted = constraint::fit(clocks, survey.earlier, constraint);
+    let seen = constraint::look(constraint, w, survey.ticks);
+    if fitted.fits {
+        if let Seen::Moves(word) = seen {
+            return Survey {
+                clocks,
+                ticks: survey.ticks,
+                earlier: fitted.defined,
+                unfit: survey.unfit,
+                out: survey.out,
+                failing: survey.failing,
+                past: survey.past,
+                word,
+            };
         }
-        i += 1;
     }
-    Broken::Nowhere
-}
-
-// Limit 60: the first word out of range, the words beyond the records among them.
-fn out_at(survey: Survey) -> Broken
-    ensures { λ r. ⌜ r ≡ s.outAt survey ⌝ }
-{
-    let out = survey.out;
-    if let Broken::At(place) = out {
-        return Broken::At(place);
-    }
-    let before = survey.before;
-    first_beyond(before, index(survey.place))
+    add(survey, i, fitted, seen, w)
 }
 
 // Limit 61: a bit at or above the clock count.
@@ -185,62 +143,36 @@ fn refused(limit: Limit, place: Place, configuration: Configuration) -> Stepped
     }
 }
 
-// The single step's answer, after the last record.
-pub fn conclude(survey: Survey) -> Stepped
-    ensures { λ r. ⌜ stepTold r ≡ s.concluded survey ⌝ }
+// The single step's answer, after the last of count records.
+pub fn conclude(
+    survey: Survey,
+    count: usize,
+    before: Configuration,
+    after: Configuration,
+) -> Stepped
+    ensures { λ r. ⌜ stepTold r ≡ s.concluded survey count before after ⌝ }
 {
-    let before = survey.before;
-    if let Broken::At(place) = unfit_at(survey) {
+    let clocks = survey.clocks;
+    if let Broken::At(place) = unfit_at(clocks, survey.unfit, count) {
         return refused(Limit::Records, place, before);
     }
-    if let Broken::At(place) = out_at(survey) {
+    if let Broken::At(place) = out_at(survey.out, count, before) {
         return refused(Limit::ConfigurationWord, place, before);
     }
-    let clocks = survey.clocks;
     if let Broken::At(place) = beyond_clocks(clocks, survey.ticks) {
         return refused(Limit::TickSet, place, before);
     }
-    let failing = survey.failing;
-    if let Broken::At(place) = failing {
+    if survey.failing != 0 {
         return Stepped {
-            answer: StepAnswer::Violated(place),
+            answer: StepAnswer::Violated(Place(survey.failing)),
             configuration: before,
         };
     }
-    let past = survey.past;
-    if let Broken::At(place) = past {
-        return refused(Limit::Million, place, before);
+    if survey.past != 0 {
+        return refused(Limit::Million, Place(survey.past), before);
     }
-    let after = survey.after;
     Stepped {
         answer: StepAnswer::Accepted,
         configuration: after,
     }
-}
-
-fn refused_same(limit: Limit, place: Place) -> SamePlace
-    ensures { λ r. ⌜ r ≡ SamePlace.Refused (record { limit = limit; place = place }) ⌝ }
-{
-    SamePlace::Refused(Refusal { limit, place })
-}
-
-// The same-place question's answer, after the last record.
-pub fn conclude_same(first: Survey, second: Survey) -> SamePlace
-    ensures { λ r. ⌜ answer r ≡ s.concludedSame first second ⌝ }
-{
-    if let Broken::At(place) = unfit_at(first) {
-        return refused_same(Limit::Records, place);
-    }
-    if let Broken::At(place) = out_at(first) {
-        return refused_same(Limit::ConfigurationWord, place);
-    }
-    if let Broken::At(place) = out_at(second) {
-        return refused_same(Limit::ConfigurationWord, place);
-    }
-    let one = first.before;
-    let other = second.before;
-    if constraint::same_words(one, other) {
-        return SamePlace::Same;
-    }
-    SamePlace::Different
 }

@@ -1,11 +1,12 @@
-// The single step and the same-place question on lent records, and the lent monitor: one walk over the records. Each lent call has a
-// doorway with plain parameters, which lends the first `count` records of an array; a count over 66 counts as 66.
+// The single step and the same-place question on lent records, each a walk over them, and the lent monitor. Each lent call has a doorway with
+// plain parameters, which lends the first `count` records of an array; a count over 66 counts as 66.
 use super::Advanced;
 use super::Monitor;
-use super::Survey;
+use super::comparing::begin_same;
+use super::comparing::compare;
+use super::comparing::conclude_same;
 use super::surveying::begin;
 use super::surveying::conclude;
-use super::surveying::conclude_same;
 use super::surveying::visit;
 use constraint::Clocks;
 use constraint::Configuration;
@@ -17,27 +18,8 @@ ghost use mathlib.Core.Path.{_≡_};
 ghost use Rattle.constraint.specs.SamePlace.{answer, Answered};
 ghost use Rattle.lent.specs.Lent.{atMost, lent, movedTo};
 ghost use Rattle.judging.specs.Single.{stepTold, stepOf};
-ghost use Rattle.lent.specs.Survey as s;
 
-// Record by record, from before the first.
-pub fn survey(
-    records: &[Constraint],
-    clocks: Clocks,
-    configuration: Configuration,
-    ticks: u32,
-) -> Survey
-    ensures { λ r. ⌜ r ≡ s.surveyed (s.begins clocks configuration ticks) (now (records .entry)) ⌝ }
-{
-    let mut known = begin(clocks, configuration, ticks);
-    let mut i = 0;
-    while i < records.len() {
-        known = visit(known, records[i]);
-        i += 1;
-    }
-    known
-}
-
-// The single step.
+// The single step: each record of the first 64 is looked at with its word, which is moved where it stands.
 pub fn step(
     records: &[Constraint],
     clocks: Clocks,
@@ -46,10 +28,18 @@ pub fn step(
 ) -> Stepped
     ensures { λ r. ⌜ stepTold r ≡ stepOf clocks (now (records .entry)) configuration ticks ⌝ }
 {
-    conclude(survey(records, clocks, configuration, ticks))
+    let mut known = begin(clocks, ticks);
+    let mut after = configuration;
+    let mut i = 0;
+    while (i < records.len()) & (i < 64) {
+        known = visit(known, i, records[i], after.words[i]);
+        after.words[i] = known.word;
+        i += 1;
+    }
+    conclude(known, records.len(), configuration, after)
 }
 
-// The same-place question.
+// The same-place question: each record of the first 64 is looked at with its two words.
 pub fn same_place(
     records: &[Constraint],
     clocks: Clocks,
@@ -58,10 +48,13 @@ pub fn same_place(
 ) -> SamePlace
     ensures { λ r. ⌜ Answered clocks (now (records .entry)) (first .words) (second .words) (answer r) ⌝ }
 {
-    conclude_same(
-        survey(records, clocks, first, 0),
-        survey(records, clocks, second, 0),
-    )
+    let mut known = begin_same(clocks);
+    let mut i = 0;
+    while (i < records.len()) & (i < 64) {
+        known = compare(known, i, records[i], first.words[i], second.words[i]);
+        i += 1;
+    }
+    conclude_same(known, records.len(), first, second)
 }
 
 // The lent monitor, moved forward where it stands. After a refusal or a violation it holds what it held.

@@ -18,6 +18,7 @@ use constraint::Broken;
 use constraint::Configuration;
 use constraint::Constraint;
 use constraint::SamePlace;
+use constraint::Seen;
 use constraint::Word;
 use judging::StepAnswer;
 use lent::Monitor;
@@ -134,17 +135,15 @@ pub fn same_place(line: &[u8]) {
     }
 }
 
-// A dot where the record does not allow a step with this tick set, else its word after it.
+// A dot where the record does not allow a step with this tick set, else its word after it, past its million too.
 fn cell(record: Constraint, w: Word, f: u32) {
     say(b" ");
-    if !constraint::in_range(record, w) {
-        say(b"?");
-        return;
-    }
-    if constraint::holds(record, w, f) {
-        say_word(constraint::next_word(record, w, f));
-    } else {
-        say(b".");
+    let seen = constraint::look(record, w, f);
+    match seen {
+        Seen::Out => say(b"?"),
+        Seen::Fails => say(b"."),
+        Seen::Leaves(v) => say_word(v),
+        Seen::Moves(v) => say_word(v),
     }
 }
 
@@ -189,8 +188,8 @@ pub fn range(line: &[u8]) {
 pub fn fits(line: &[u8]) {
     let record = every(line);
     let clock = clock_of(number(line, b"fits", 0));
-    let clocks = clocks(line);
-    say_answer(constraint::well_formed(clocks.count, record));
+    let fitted = constraint::fit(clocks(line), 0, record);
+    say_answer(fitted.fits);
     say_answer(constraint::defines_again(constraint::with_tick(0, clock), record));
 }
 

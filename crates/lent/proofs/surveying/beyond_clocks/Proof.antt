@@ -1,6 +1,6 @@
 -- `beyond_clocks` meets its contract: below 32 the set is shifted by the clock count, and from there on there is room for every bit.
 -- Assumes nothing.
-use Rattle.lent.proofs.VisitLaws.{ticks-below, ticks-beyond, ticks-room}
+use Rattle.lent.proofs.PlaceLaws.{ticks-below, ticks-beyond, ticks-room}
 use borrow.Author.Needs.{needs}
 use Rattle.lent.proofs.surveying.beyond_clocks.Statement.{statement}
 use Rattle.lent.proofs.surveying.beyond_clocks.Tie as tie

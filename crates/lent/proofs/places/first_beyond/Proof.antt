@@ -7,10 +7,10 @@ use borrow.Author.Tests.{not-true, not-false}
 use lib.ListN.{length, drop}
 use Rattle.constraint.specs.Lists.{firstOut}
 use Rattle.constraint.proofs.Walk.{length-mapped}
-use Rattle.lent.proofs.VisitLaws.{beyond-done, beyond-stop, beyond-on}
+use Rattle.lent.proofs.PlaceLaws.{beyond-done, beyond-stop, beyond-on}
 use borrow.Author.Needs.{needs}
-use Rattle.lent.proofs.surveying.first_beyond.Statement.{statement}
-use Rattle.lent.proofs.surveying.first_beyond.Tie as tie
+use Rattle.lent.proofs.places.first_beyond.Statement.{statement}
+use Rattle.lent.proofs.places.first_beyond.Tie as tie
 
 abbrev Inv-loop : tie.InvT-loop
 Inv-loop from configuration i₀ i = firstOut (from + 1) [] (drop from (configuration .words)) ≡ firstOut (i + 1) [] (drop i (configuration .words))
