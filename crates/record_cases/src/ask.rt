@@ -75,14 +75,12 @@ fn say_step(answer: StepAnswer) {
 pub fn start(line: &[u8]) {
     let started = lent::start_on(slots(line), count(line), clocks(line));
     let outcome = started.outcome;
-    let monitor = started.monitor;
-    let configuration = monitor.configuration;
     say(b" ");
     match outcome {
         Check::Passed => say(b"started"),
         Check::Refused(refusal) => say_refusal(refusal),
     }
-    say_words(configuration);
+    say_words(started.monitor.configuration);
 }
 
 // The single step.
@@ -95,9 +93,8 @@ pub fn step(line: &[u8]) {
         set(line, b"step"),
     );
     let answer = stepped.answer;
-    let after = stepped.configuration;
     say_step(answer);
-    say_words(after);
+    say_words(stepped.configuration);
 }
 
 // The lent monitor, moved forward from where the words say that it stands.
@@ -111,10 +108,8 @@ pub fn advance(line: &[u8]) {
         set(line, b"advance"),
     );
     let answer = moved.answer;
-    let monitor = moved.monitor;
-    let after = monitor.configuration;
     say_step(answer);
-    say_words(after);
+    say_words(moved.monitor.configuration);
 }
 
 // The same-place question.
@@ -189,7 +184,8 @@ pub fn range(line: &[u8]) {
 pub fn fits(line: &[u8]) {
     let record = every(line);
     let clock = clock_of(number(line, b"fits", 0));
-    say_answer(constraint::well_formed(clocks(line), record));
+    let clocks = clocks(line);
+    say_answer(constraint::well_formed(clocks.count, record));
     say_answer(constraint::defines_again(constraint::with_tick(0, clock), record));
 }
 
