@@ -76,14 +76,12 @@ fn say_step(answer: StepAnswer) {
 pub fn start(line: &[u8]) {
     let started = lent::start_on(slots(line), count(line), clocks(line));
     let outcome = started.outcome;
-    let monitor = started.monitor;
-    let configuration = monitor.configuration;
     say(b" ");
     match outcome {
         Check::Passed => say(b"started"),
         Check::Refused(refusal) => say_refusal(refusal),
     }
-    say_words(configuration);
+    say_words(started.monitor.configuration);
 }
 
 // The single step.
@@ -96,9 +94,8 @@ pub fn step(line: &[u8]) {
         set(line, b"step"),
     );
     let answer = stepped.answer;
-    let after = stepped.configuration;
     say_step(answer);
-    say_words(after);
+    say_words(stepped.configuration);
 }
 
 // The lent monitor, moved forward from where the words say that it stands.
@@ -112,10 +109,8 @@ pub fn advance(line: &[u8]) {
         set(line, b"advance"),
     );
     let answer = moved.answer;
-    let monitor = moved.monitor;
-    let after = monitor.configuration;
     say_step(answer);
-    say_words(after);
+    say_words(moved.monitor.configuration);
 }
 
 // The same-place question.

@@ -24,12 +24,6 @@ pub enum Item {
     Other,
 }
 
-// Numbers, and the index of the next.
-pub struct List {
-    pub all: Configuration,
-    pub next: usize,
-}
-
 // Where a word first stands in a list of words.
 pub fn find(list: &[u8], key: &[u8]) -> Found {
     let mut at = 0;
@@ -92,40 +86,32 @@ pub fn item_of(word: &[u8]) -> Item {
     signed(text::decimal(word), false)
 }
 
-// The list, with a number more; or with the last of 64 as the next.
-fn with_item(list: List, item: Item) -> List {
-    let i = list.next;
-    let mut all = list.all;
-    let Item::Number(w) = item else {
-        return List { all, next: 63 };
-    };
-    if 64 <= i {
-        return list;
-    }
-    all.words[i] = w;
-    List { all, next: i + 1 }
-}
-
 // The numbers from an offset up to a word that says something else; each of the 64 that is left out is another number.
 fn numbers(line: &[u8], from: usize, other: i64) -> Configuration {
-    let mut list = List {
-        all: Configuration {
-            words: [Word(other); 64],
-        },
-        next: 0,
+    let mut all = Configuration {
+        words: [Word(other); 64],
     };
+    let mut next: usize = 0;
     let mut at = from;
     while at < line.len() {
         let word = text::next_word(Class::Space, line, at);
-        let item = item_of(text::part(line, word));
-        if let Item::Other = item {
-            let all = list.all;
-            return all;
-        }
-        list = with_item(list, item);
         at = word.end;
+        let item = item_of(text::part(line, word));
+        match item {
+            Item::Number(w) => {
+                if next < 64 {
+                    all.words[next] = w;
+                    next += 1;
+                }
+            }
+            Item::Dots => {
+                next = 63;
+            }
+            Item::Other => {
+                return all;
+            }
+        }
     }
-    let all = list.all;
     all
 }
 
