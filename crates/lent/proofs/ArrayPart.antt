@@ -1,6 +1,6 @@
 -- An element of an array that lies in a cell: the element's cell can be taken out, and put back with any value (`Types/Part.antt`'s `Part`). So `look-in` and `store-in` read and overwrite `a[k]`, where k is any number below the length. Assumes nothing.
 use mathlib.Core.Path.{_≡_, sym, _∙_, ap, subst}
-use Prim.Native.Nat.{ℕ, zero, suc, _+_, _*_, _<_}
+use Prim.Native.Nat.{ℕ, zero, suc, _+_, _<_}
 use native.Mathlib.Nat.{not-suc-le-zero, le-of-suc-le-suc}
 use mathlib.Core.List.{List, [], _∷_}
 use lib.ListN.{length, getD, set, length-set}
@@ -17,7 +17,7 @@ use ghost.Atoms.{Atoms}
 use types.Kit.{Given, Item, ‵, raw, _⊛_, mean, _$_, _∵_, !, qed, move, use1, use2, split, assume, frame, each, done}
 use types.Part.{Part}
 use denote.Array.{arrayVal}
-use denote.Index.{place, place-is}
+use denote.Index.{place}
 
 module _ {M : Type 1} (𝓤 : URA M) (H : Heap 𝓤) (A : Atoms 𝓤) (W : Given 𝓤 H A) (q : Share) (τ : Ty) where
   -- element k with the value u gives back the row, with u at k

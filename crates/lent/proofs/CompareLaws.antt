@@ -22,7 +22,7 @@ use Rattle.constraint.specs.declared.Clocks.{Clocks}
 use Rattle.constraint.specs.declared.Constraint.{Constraint}
 use Rattle.constraint.specs.declared.Word.{Word}
 use Rattle.constraint.proofs.Demand3.{nowhere}
-use Rattle.constraint.proofs.Slots.{only-zero}
+use Rattle.constraint.proofs.Words.{only-zero}
 use Rattle.constraint.proofs.TickSets.{bits-zero}
 use Rattle.judging.specs.Code.{firstOf}
 use Rattle.lent.specs.Compare.{beginsSame, compared, comparedAll, concludedSame}

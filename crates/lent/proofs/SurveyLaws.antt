@@ -8,7 +8,7 @@ use native.Mathlib.Numerals.{add-one}
 use native.Mathlib.Omega.{arith}
 use borrow.Author.Tests.{leb-true}
 use lib.Dec.{ltb}
-use lib.ListN.{length, take, drop, set, length-set, length-take, take-append-drop}
+use lib.ListN.{length, take, drop, length-set, length-take, take-append-drop}
 use lib.Seq.{drop-cons, drop-set-lt, take-suc-set, take-all, append-snoc}
 use Rattle.limit.specs.declared.Limit.{Limit}
 use Rattle.limit.specs.declared.Limit.the-variants.{Records, ConfigurationWord, TickSet}
@@ -29,9 +29,8 @@ use Rattle.constraint.proofs.TickSets.{bits-zero}
 use Rattle.judging.specs.Code.{firstOf}
 use Rattle.judging.specs.Single.{StepTold, refusesAt, beyondClocks, judgedTold, stepOf}
 use Rattle.judging.specs.Step.{firstFailing, moved, handedBack, judged}
-use Rattle.judging.specs.declared.Judged.{Judged}
 use Rattle.judging.specs.declared.Outcome.the-variants.{Held, Failed, PastMillion}
-use Rattle.lent.specs.Places.{placeOf, lowest, placed, unfitAt, outAt}
+use Rattle.lent.specs.Places.{placed, unfitAt, outAt}
 use Rattle.lent.specs.Survey.{inside, held, stayed, after, begins, visited, Walked, turned, surveyed, judgedAt, concluded}
 use Rattle.lent.specs.declared.Survey.{Survey}
 use Rattle.lent.proofs.PlaceLaws.{lowest-placed, unfit-on, unfit-is, few-pass}

@@ -1,5 +1,5 @@
 -- `out_at` meets its contract: a place is known, or the words beyond the records decide, of which there are none from 64 records on. Assumes nothing.
-use mathlib.Core.Path.{_≡_, sym, _∙_}
+use mathlib.Core.Path.{_≡_, sym}
 use native.Mathlib.Omega.{arith}
 use lib.ListN.{length}
 use Rattle.constraint.proofs.Walk.{length-mapped}
