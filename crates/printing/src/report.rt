@@ -40,10 +40,9 @@ fn refused(out: &mut [u8], at: usize, refusal: Refusal) -> usize
     ensures { λ r. ⌜ Short 51 (now (out .entry)) at (p.verdictLine (run.refused (numberOf (refusal .limit)) (refusal .place .0))) (now (out .exit)) r ⌝ }
 {
     let limit = refusal.limit;
-    let place = refusal.place;
     let a = put_text(out, at, b"refused");
     let b = put_limit(out, a, limit);
-    let c = put_place(out, b, place);
+    let c = put_place(out, b, refusal.place);
     put_text(out, c, b"\n")
 }
 
@@ -103,12 +102,9 @@ pub fn report_text(report: Report, buffer: &mut [u8; ROOM]) -> usize
     ensures { λ r. ⌜ p.Begins (now (buffer .entry)) (p.printed (run.told report)) (now (buffer .exit)) r ⌝ }
 {
     let verdict = report.verdict;
-    let steps = report.steps;
-    let configuration = report.configuration;
-    let constraints = report.constraints;
     let a = verdict_line(buffer, 0, verdict);
-    let b = steps_line(buffer, a, steps);
-    config_line(buffer, b, configuration, constraints)
+    let b = steps_line(buffer, a, report.steps);
+    config_line(buffer, b, report.configuration, report.constraints)
 }
 
 // Puts what the program prints of a table and a recording at the front of a buffer, and answers how many bytes that are.

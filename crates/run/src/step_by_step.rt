@@ -80,13 +80,12 @@ fn settle(
     ensures { λ r. ⌜ r ≡ f.settles (slots count records) progress step judged ⌝ }
 {
     let outcome = judged.outcome;
-    let steps = progress.steps;
     match outcome {
         Outcome::Held => {
             let configuration = judged.configuration;
             on(Progress {
                 configuration,
-                steps: Steps(steps.0 + 1),
+                steps: Steps(progress.steps.0 + 1),
             })
         }
         Outcome::Failed(place) => {
@@ -117,12 +116,11 @@ pub fn close(records: [Constraint; 64], count: usize, progress: Progress, step: 
     if !step.begun {
         return on(progress);
     }
-    let configuration = progress.configuration;
     settle(
         records,
         count,
         progress,
         step,
-        judge(records, count, configuration, step.ticks),
+        judge(records, count, progress.configuration, step.ticks),
     )
 }

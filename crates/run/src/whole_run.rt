@@ -31,9 +31,8 @@ fn report(count: usize, next: Next) -> Report
     ensures { λ r. ⌜ s.told r ≡ s.ran count (f.endOf next) ⌝ }
 {
     let verdict = next.verdict;
-    let progress = next.progress;
-    let steps = progress.steps;
-    let configuration = progress.configuration;
+    let steps = next.progress.steps;
+    let configuration = next.progress.configuration;
     Report {
         verdict,
         steps,
@@ -126,23 +125,19 @@ pub fn run(table: &[u8], recording: &[u8]) -> Report
             },
         );
     }
-    let constraints = read.table;
-    let records = constraints.records;
-    let names = constraints.names;
-    let count = constraints.count;
+    let records = read.table.records;
     let configuration = constraint::start_words(records);
-    let header = recording::read_header(table, names, recording);
+    let header = recording::read_header(table, read.table.names, recording);
     let opened = header.outcome;
     if let Check::Refused(refusal) = opened {
-        return refused(refusal, count, configuration);
+        return refused(refusal, read.table.count, configuration);
     }
-    let variables = header.variables;
     judge_body(
         recording,
         header.body,
-        variables,
+        header.variables,
         records,
-        count,
+        read.table.count,
         configuration,
     )
 }

@@ -10,7 +10,7 @@ use Rattle.run.proofs.step_by_step.close.Tie as tie
 returns-2 : tie.Need-returns-2
 returns-2 c =
     let j = c .before .judge in
-    let e = c .before .before .before in
+    let e = c .before .before in
     c .settle .ensures ∙ ap (settles _ _ _) (j .ensures) ∙ sym (closed-some _ _ _ (not-false _ (e .if1 .left)))
 
 pub close-spec : {M : Type 1} → statement M

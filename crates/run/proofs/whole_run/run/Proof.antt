@@ -14,31 +14,31 @@ returns c =
 
 read-header-requires : tie.Need-read-header-requires
 read-header-requires c κs =
-    let m = c .before .before .before .before in
+    let m = c .before .before in
     let q = m .before .before .read-table in
     table-passes _ (now (m .before .before .before .before .before .args .recording)) (q .result) (q .ensures) (m .enum-told .given .1) .clocks
 
 returns-2 : tie.Need-returns-2
 returns-2 c =
     let h = c .before .before .before .before in
-    let m = h .before .before .before .before .before in
+    let m = h .before .before .before in
     let q = m .before .before .read-table in
     ap told (c .refused2 .ensures) ∙ rw (h .before .start-words .ensures) (sym (header-refused _ _ (q .result) (q .ensures) (m .enum-told .given .1) (h .read-header .result) (h .read-header .ensures .0) _ (c .before .before .opened .given .1)))
 
 judge-body-requires : tie.Need-judge-body-requires
 judge-body-requires c κs =
-    let h = c .before .before .before in
-    let m = h .before .before .before .before .before in
+    let h = c .before .before in
+    let m = h .before .before .before in
     let q = m .before .before .read-table in
     let p = table-passes _ (now (m .before .before .before .before .before .args .recording)) (q .result) (q .ensures) (m .enum-told .given .1) in
-    (header-within _ _ (q .result) (q .ensures) (m .enum-told .given .1) (h .read-header .result) (h .read-header .ensures .0) (c .before .enum-told2 .given .1), h .read-header .ensures .1, record { room = p .constraints; inside = rw (h .before .start-words .ensures) (p .words) })
+    (header-within _ _ (q .result) (q .ensures) (m .enum-told .given .1) (h .read-header .result) (h .read-header .ensures .0) (c .enum-told2 .given .1), h .read-header .ensures .1, record { room = p .constraints; inside = rw (h .before .start-words .ensures) (p .words) })
 
 returns-3 : tie.Need-returns-3
 returns-3 c =
-    let h = c .before .before .before .before in
-    let m = h .before .before .before .before .before in
+    let h = c .before .before .before in
+    let m = h .before .before .before in
     let q = m .before .before .read-table in
-    c .judge-body .ensures ∙ rw (h .before .start-words .ensures) (sym (header-read _ _ (q .result) (q .ensures) (m .enum-told .given .1) (h .read-header .result) (h .read-header .ensures .0) (c .before .before .enum-told2 .given .1)))
+    c .judge-body .ensures ∙ rw (h .before .start-words .ensures) (sym (header-read _ _ (q .result) (q .ensures) (m .enum-told .given .1) (h .read-header .result) (h .read-header .ensures .0) (c .before .enum-told2 .given .1)))
 
 pub run-spec : {M : Type 1} → statement M
 run-spec =
