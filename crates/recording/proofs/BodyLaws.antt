@@ -1,6 +1,6 @@
 -- A word of the body by its first byte, and the body unfolded by one word. Assumes nothing.
 use mathlib.Core.Path.{_≡_, refl, sym, ap, _∙_}
-use mathlib.Core.Bool.{Bool, true, false, false≢true}
+use mathlib.Core.Bool.{true, false, false≢true, not}
 use mathlib.Core.List.{List, [], _∷_}
 use Prim.Native.Nat.{ℕ, _-_, _≤_, _<_}
 use native.Mathlib.Omega.{arith}
@@ -9,15 +9,14 @@ use lib.ListN.{length, take, drop, getD}
 use lib.Seq.{take-all}
 use Rattle.limit.specs.declared.Limit.the-variants.{BodyWord}
 use Rattle.limit.specs.declared.Refusal.{Refusal}
+use Rattle.limit.proofs.CheckLaws.{refuses, allows}
 use Rattle.text.specs.Digits.{number}
 use Rattle.text.specs.Split.{bytesOf}
 use Rattle.text.specs.declared.Span.{Span}
 use Rattle.recording.specs.Answers.{turnAs}
-use Rattle.recording.specs.Body.{opensMark, levelOf, markTurn, variableTurn, levelTurn, changeTurn, wordTurn, ended, refusedAt, endsWith, closing, onward, bodySteps}
+use Rattle.recording.specs.Body.{opensMark, isValue, markTurn, variableTurn, changeTurn, wordTurn, ended, refusedAt, endsWith, closing, onward, bodySteps}
 use Rattle.limit.specs.Checked.{Checked, stopped}
 use Rattle.recording.specs.Variables.{Variable}
-use Rattle.recording.specs.declared.Level.{Level}
-use Rattle.recording.specs.declared.Level.the-variants.{Tick, NoTick, NoChange}
 use Rattle.recording.specs.declared.Step.{Step}
 use Rattle.recording.specs.declared.Turn.{Turn}
 use Rattle.recording.specs.declared.Turn.the-variants.{Passed, Refused}
@@ -49,43 +48,34 @@ no-digits o at [] e = refl
 no-digits o at (b ∷ bs) e = absurd (omega arith)
 
 module _ (vs : List Variable) (o : Step) (at : ℕ) (w : List ℕ) where
-  pub change-short : length w < 2 → (t : Checked Step) → t ≡ stopped BodyWord at → t ≡ changeTurn vs o at w
-  change-short h t q = q ∙ go w h
+  -- with no id, or with no value in front of it, it is no change
+  pub change-short : length w < 2 → changeTurn vs o at w ≡ stopped BodyWord at
+  unfolding changeTurn
+  change-short h = go w h
     where
-      go : (w : List ℕ) → length w < 2 → stopped BodyWord at ≡ changeTurn vs o at w
-      go [] h = unfold changeTurn in refl
-      go (b ∷ []) h = unfold changeTurn levelTurn in refl
-      go (b ∷ c ∷ bs) h = absurd (omega arith)
+      go : (w : List ℕ) → length w < 2 → changeTurn vs o at w ≡ stopped BodyWord at
+      go [] h = refl
+      go (b ∷ []) h = refl
+      go (b ∷ i ∷ is) h = absurd (omega arith)
 
-  module _ (h : 2 ≤ length w) (l : Level) (said : l ≡ levelOf (getD w 0 0)) (t : Checked Step) where
-    change-is : changeTurn vs o at w ≡ levelTurn vs o at l (drop 1 w)
-    change-is = go w h said
+  module _ (h : 2 ≤ length w) where
+    pub change-other : not (isValue (getD w 0 0)) ≡ true → changeTurn vs o at w ≡ stopped BodyWord at
+    unfolding changeTurn
+    change-other e = go w h e
       where
-        go : (w : List ℕ) → 2 ≤ length w → l ≡ levelOf (getD w 0 0) → changeTurn vs o at w ≡ levelTurn vs o at l (drop 1 w)
+        go : (w : List ℕ) → 2 ≤ length w → not (isValue (getD w 0 0)) ≡ true → changeTurn vs o at w ≡ stopped BodyWord at
         go [] h e = absurd (omega arith)
-        go (b ∷ bs) h e = unfold changeTurn in ap (λ (x : Level). levelTurn vs o at x bs) (sym e)
+        go (b ∷ []) h e = absurd (omega arith)
+        go (b ∷ i ∷ is) h e = refuses _ _ _ _ e
 
-    level-id : (tick : Bool) → ((i : ℕ) (is : List ℕ) → variableTurn vs o at tick (i ∷ is) ≡ levelTurn vs o at l (i ∷ is))
-        → variableTurn vs o at tick (tail w) ≡ changeTurn vs o at w
-    level-id tick f = ap (variableTurn vs o at tick) (behind w) ∙ go w h ∙ sym change-is
+    pub change-value : not (isValue (getD w 0 0)) ≡ false → changeTurn vs o at w ≡ variableTurn vs o at (tail w)
+    unfolding changeTurn
+    change-value e = go w h e ∙ ap (variableTurn vs o at) (sym (behind w))
       where
-        go : (w : List ℕ) → 2 ≤ length w → variableTurn vs o at tick (drop 1 w) ≡ levelTurn vs o at l (drop 1 w)
-        go [] h = absurd (omega arith)
-        go (b ∷ []) h = absurd (omega arith)
-        go (b ∷ i ∷ is) h = f i is
-
-    pub change-tick : l ≡ Tick → t ≡ variableTurn vs o at true (tail w) → t ≡ changeTurn vs o at w
-    change-tick e q = q ∙ level-id true (λ i is. rw e (unfold levelTurn in refl))
-
-    pub change-no-tick : l ≡ NoTick → t ≡ variableTurn vs o at false (tail w) → t ≡ changeTurn vs o at w
-    change-no-tick e q = q ∙ level-id false (λ i is. rw e (unfold levelTurn in refl))
-
-    pub change-other : l ≡ NoChange → t ≡ stopped BodyWord at → t ≡ changeTurn vs o at w
-    change-other e q = q ∙ rw e (go (drop 1 w)) ∙ sym change-is
-      where
-        go : (id : List ℕ) → stopped BodyWord at ≡ levelTurn vs o at NoChange id
-        go [] = unfold levelTurn in refl
-        go (i ∷ is) = unfold levelTurn in refl
+        go : (w : List ℕ) → 2 ≤ length w → not (isValue (getD w 0 0)) ≡ false → changeTurn vs o at w ≡ variableTurn vs o at (drop 1 w)
+        go [] h e = absurd (omega arith)
+        go (b ∷ []) h e = absurd (omega arith)
+        go (b ∷ i ∷ is) h e = allows _ _ _ _ e
 
 -- ---- the body, by one word
 module _ (vs : List Variable) (r : List ℕ) (o : Step) (ws : List Span) where

@@ -13,7 +13,7 @@ use lib.Dec.{leb, ltb}
 use lib.ListN.{length, take, drop, length-take}
 use lib.Pow.{pow-lt, suc-ones}
 use Rattle.limit.specs.declared.Limit.{Limit}
-use Rattle.limit.specs.declared.Limit.the-variants.{RecordingLength, RecordingByte, VariableShape, DeclaredTwice, VariableCount, MarkTime, ChangeBeforeMark, TickTwice}
+use Rattle.limit.specs.declared.Limit.the-variants.{RecordingLength, RecordingByte, VariableShape, DeclaredTwice, VariableCount, BodyWord, MarkTime, ChangeBeforeMark, TickTwice}
 use Rattle.constraint.specs.Ticks.{withTick, bits}
 use Rattle.text.specs.Bytes.{sameBytes}
 use Rattle.text.specs.Digits.{number}
@@ -26,14 +26,12 @@ use Rattle.grammar.specs.Names.{position}
 use Rattle.grammar.specs.declared.Found.{Found}
 use Rattle.grammar.specs.declared.Found.the-variants.{At, Nothing}
 use Rattle.grammar.specs.declared.Names.{Names}
-use Rattle.recording.specs.Body.{opensMark, levelOf, unmarked, begin, ticking, markTurn, foundTurn, variableTurn, levelTurn, changeTurn, wordTurn, Reading, closing, onward, bodySteps, bodyOf, reading}
+use Rattle.recording.specs.Body.{opensMark, isValue, unmarked, begin, ticking, markTurn, foundTurn, variableTurn, changeTurn, wordTurn, Reading, closing, onward, bodySteps, bodyOf, reading}
 use Rattle.limit.specs.Checked.{Checked, passed, stopped, refuseIf, andThen}
 use Rattle.recording.specs.Header.{says, commandOf, shaped, declare, Header, mostBytes, firstOther, close, byCommand, header, skipping, declaring, opened, words}
 use Rattle.recording.specs.Variables.{Variable, clockNamed, withId, lookUp, isDeclared, clockAgain, allDeclared}
 use Rattle.recording.specs.declared.Command.{Command}
 use Rattle.recording.specs.declared.Command.the-variants.{Skipped, Declaration, Definitions, Unknown}
-use Rattle.recording.specs.declared.Level.{Level}
-use Rattle.recording.specs.declared.Level.the-variants.{Tick, NoTick, NoChange}
 use Rattle.recording.specs.declared.Step.{Step}
 
 -- a clock of the table, or none
@@ -172,14 +170,9 @@ module _ (n : ℕ) (room : n ≤ 32) where
   with-tick-below f k h (inl e) = rw (lt-ltb k 32 (omega arith)) (or-lt n f (2 ^ k) h (pow-lt e))
   with-tick-below f k h (inr e) = rw (le-ltb k 32 (omega arith)) h
 
-  found-ticking : (o : Step) (at : ℕ) (tick : Bool) (x : Found) → Ticking o → Found-clock x → Each Ticking (foundTurn o at tick x)
-  found-ticking o at tick Nothing h k = tt
-  found-ticking o at false (At k) h e = h
-  found-ticking o at true (At k) h e = go (bits (o .ticks) k)
-    where
-      go : (x : Bool) → Each Ticking (refuseIf x TickTwice at (passed (ticking k o)))
-      go true = tt
-      go false = with-tick-below (o .ticks) k h e
+  found-ticking : (o : Step) (at : ℕ) (x : Found) → Ticking o → Found-clock x → Each Ticking (foundTurn o at x)
+  found-ticking o at Nothing h k = tt
+  found-ticking o at (At k) h e = unless-broken Ticking (bits (o .ticks) k) TickTwice at (passed (ticking k o)) (with-tick-below (o .ticks) k h e)
 
   zero-below : 0 < 2 ^ n
   zero-below = omega (arith, suc-ones n)
@@ -198,24 +191,14 @@ module _ (n : ℕ) (room : n ≤ 32) where
   AllTicking (s ∷ ss) = Ticking s × AllTicking ss
 
   module _ (vs : List Variable) (known : Clocks vs) where
-    variable-ticking : (o : Step) (at : ℕ) (tick : Bool) (id : List ℕ) → Ticking o → Each Ticking (variableTurn vs o at tick id)
-    variable-ticking o at tick id h = go (not (o .begun))
-      where
-        go : (x : Bool) → Each Ticking (refuseIf x ChangeBeforeMark at (foundTurn o at tick (lookUp vs id)))
-        go true = tt
-        go false = found-ticking o at tick (lookUp vs id) h (look-clock id vs known)
-
-    level-ticking : (o : Step) (at : ℕ) (l : Level) (id : List ℕ) → Ticking o → Each Ticking (levelTurn vs o at l id)
-    unfolding levelTurn
-    level-ticking o at l [] h = tt
-    level-ticking o at Tick (i ∷ is) h = variable-ticking o at true (i ∷ is) h
-    level-ticking o at NoTick (i ∷ is) h = variable-ticking o at false (i ∷ is) h
-    level-ticking o at NoChange (i ∷ is) h = tt
+    variable-ticking : (o : Step) (at : ℕ) (id : List ℕ) → Ticking o → Each Ticking (variableTurn vs o at id)
+    variable-ticking o at id h = unless-broken Ticking (not (o .begun)) ChangeBeforeMark at (foundTurn o at (lookUp vs id)) (found-ticking o at (lookUp vs id) h (look-clock id vs known))
 
     change-ticking : (o : Step) (at : ℕ) (w : List ℕ) → Ticking o → Each Ticking (changeTurn vs o at w)
     unfolding changeTurn
     change-ticking o at [] h = tt
-    change-ticking o at (b ∷ id) h = level-ticking o at (levelOf b) id h
+    change-ticking o at (b ∷ []) h = tt
+    change-ticking o at (b ∷ i ∷ is) h = unless-broken Ticking (not (isValue b)) BodyWord at (variableTurn vs o at (i ∷ is)) (variable-ticking o at (i ∷ is) h)
 
     word-ticking : (o : Step) (at : ℕ) (w : List ℕ) → Ticking o → Each Ticking (wordTurn vs o at w)
     unfolding wordTurn

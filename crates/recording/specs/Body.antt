@@ -1,8 +1,8 @@
 -- The body: document 01, "Recording" and the rows 40 to 44 of "Where each refusal is checked". Reading alone, with nothing judged, gives the
 -- steps that were closed, each by a word that opens with `#` or by the end, and how reading ended. Assumes nothing.
 use mathlib.Core.Path.{_≡_, refl}
-use mathlib.Core.Bool.{Bool, true, false, not, cond, _&&_}
-use mathlib.Core.List.{List, [], _∷_}
+use mathlib.Core.Bool.{Bool, true, false, not, cond, _&&_, _||_}
+use mathlib.Core.List.{List, [], _∷_, map}
 use Prim.Native.Nat.{ℕ}
 use lib.Dec.{eqb, leb}
 use lib.ListN.{drop}
@@ -21,8 +21,6 @@ use Rattle.grammar.specs.declared.Found.the-variants.{At, Nothing}
 use Rattle.limit.specs.Checked.{Checked, passed, stopped, refuseIf}
 use Rattle.recording.specs.Header.{Header, opened, words}
 use Rattle.recording.specs.Variables.{Variable, lookUp, withId}
-use Rattle.recording.specs.declared.Level.{Level}
-use Rattle.recording.specs.declared.Level.the-variants.{Tick, NoTick, NoChange}
 use Rattle.recording.specs.declared.Step.{Step}
 
 -- `#` is byte 35
@@ -30,9 +28,9 @@ abbrev pub opensMark : List ℕ → Bool
 opensMark [] = false
 opensMark (b ∷ bs) = eqb b 35
 
--- a change opens with `1`, a tick, or `0`, no tick
-abbrev pub levelOf : ℕ → Level
-levelOf b = cond (eqb b 49) Tick (cond (eqb b 48) NoTick NoChange)
+-- document 02, M-100: each of `0`, `1`, `x`, `X`, `z`, `Z` before an id is a tick. The value has no meaning
+abbrev pub isValue : ℕ → Bool
+isValue b = eqb b 48 || eqb b 49 || eqb b 120 || eqb b 88 || eqb b 122 || eqb b 90
 
 -- before any mark
 abbrev pub unmarked : Step
@@ -52,26 +50,20 @@ markTurn o at NotDigits = stopped BodyWord at
 markTurn o at TooLarge = stopped MarkTime at
 markTurn o at (Value t) = refuseIf (o .begun && leb t (o .time .0)) MarkTime at (passed (begin at t))
 
--- a change of the variable that was found: 43 id undeclared; 44 a table clock's second tick in a step
-abbrev pub foundTurn : Step → (at : ℕ) → (tick : Bool) → Found → Checked Step
-foundTurn o at tick Nothing = stopped IdUndeclared at
-foundTurn o at true (At k) = refuseIf (bits (o .ticks) k) TickTwice at (passed (ticking k o))
-foundTurn o at false (At k) = passed o
+-- a tick of the variable that was found: 43 id undeclared; 44 a table clock's second tick in a step
+abbrev pub foundTurn : Step → (at : ℕ) → Found → Checked Step
+foundTurn o at Nothing = stopped IdUndeclared at
+foundTurn o at (At k) = refuseIf (bits (o .ticks) k) TickTwice at (passed (ticking k o))
 
--- a change of a variable: 42 before any mark
-abbrev pub variableTurn : List Variable → Step → (at : ℕ) → (tick : Bool) → (id : List ℕ) → Checked Step
-variableTurn vs o at tick id = refuseIf (not (o .begun)) ChangeBeforeMark at (foundTurn o at tick (lookUp vs id))
+-- a tick of a variable: 42 before any mark
+abbrev pub variableTurn : List Variable → Step → (at : ℕ) → (id : List ℕ) → Checked Step
+variableTurn vs o at id = refuseIf (not (o .begun)) ChangeBeforeMark at (foundTurn o at (lookUp vs id))
 
-unfoldable pub levelTurn : List Variable → Step → (at : ℕ) → Level → (id : List ℕ) → Checked Step
-levelTurn vs o at l [] = stopped BodyWord at
-levelTurn vs o at Tick (i ∷ is) = variableTurn vs o at true (i ∷ is)
-levelTurn vs o at NoTick (i ∷ is) = variableTurn vs o at false (i ∷ is)
-levelTurn vs o at NoChange (i ∷ is) = stopped BodyWord at
-
--- a word that opens no mark: 40 no change of the two kinds
+-- a word that opens no mark: 40 no value with an id behind it
 unfoldable pub changeTurn : List Variable → Step → (at : ℕ) → List ℕ → Checked Step
 changeTurn vs o at [] = stopped BodyWord at
-changeTurn vs o at (b ∷ id) = levelTurn vs o at (levelOf b) id
+changeTurn vs o at (b ∷ []) = stopped BodyWord at
+changeTurn vs o at (b ∷ i ∷ is) = refuseIf (not (isValue b)) BodyWord at (variableTurn vs o at (i ∷ is))
 
 unfoldable pub wordTurn : List Variable → Step → (at : ℕ) → List ℕ → Checked Step
 wordTurn vs o at w = cond (opensMark w) (markTurn o at (number (drop 1 w))) (changeTurn vs o at w)
@@ -118,12 +110,22 @@ abbrev bang : List Variable
 bang = record { id = ascii "!"; clock = 0 } ∷ []
 
 tick : wordTurn bang (begin 0 7) 3 (ascii "1!") ≡ passed (ticking 0 (begin 0 7))
-unfolding wordTurn changeTurn levelTurn withId sameBytes
+unfolding wordTurn changeTurn withId sameBytes
 tick = refl
 
-no-tick : wordTurn bang (begin 0 7) 3 (ascii "0!") ≡ passed (begin 0 7)
-unfolding wordTurn changeTurn levelTurn withId sameBytes
-no-tick = refl
+second-tick : wordTurn bang (ticking 0 (begin 0 7)) 6 (ascii "0!") ≡ stopped TickTwice 6
+unfolding wordTurn changeTurn withId sameBytes
+second-tick = refl
+
+no-id : wordTurn bang (begin 0 7) 3 (ascii "x") ≡ stopped BodyWord 3
+unfolding wordTurn changeTurn
+no-id = refl
+
+values : map isValue (ascii "01xXzZ") ≡ true ∷ true ∷ true ∷ true ∷ true ∷ true ∷ []
+values = refl
+
+no-values : map isValue (ascii "2bBrRu-!") ≡ false ∷ false ∷ false ∷ false ∷ false ∷ false ∷ false ∷ false ∷ []
+no-values = refl
 
 equal-time : wordTurn bang (begin 0 7) 3 (ascii "#07") ≡ stopped MarkTime 3
 unfolding wordTurn number value allBytes
@@ -131,5 +133,5 @@ equal-time = refl
 
 -- the step before a mark is closed, and so is the last
 two-steps : bodySteps bang (ascii "#7 #9 1!") unmarked (words (ascii "#7 #9 1!") 0) ≡ record { steps = begin 0 7 ∷ ticking 0 (begin 3 9) ∷ []; ending = ended }
-unfolding bodySteps onward closing wordTurn changeTurn levelTurn withId sameBytes number value allBytes tokens filled grown
+unfolding bodySteps onward closing wordTurn changeTurn withId sameBytes number value allBytes tokens filled grown
 two-steps = refl

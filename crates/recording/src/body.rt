@@ -1,6 +1,5 @@
 // The words of the body: marks and changes, and what they do to the open step.
 use super::ChangesRead;
-use super::Level;
 use super::Step;
 use super::Time;
 use super::Turn;
@@ -13,7 +12,6 @@ use text::Class;
 use text::Number;
 use text::Span;
 ghost use mathlib.Core.Path.{_≡_};
-ghost use mathlib.Core.Bool.{true, false};
 ghost use lib.ListN.{drop};
 ghost use Rattle.limit.specs.Checked as k;
 ghost use Rattle.text.specs.Digits.{number};
@@ -87,7 +85,7 @@ pub fn read_mark(recording: &[u8], step: Step, word: Span) -> Turn
 
 // A tick of a clock.
 fn tick(step: Step, at: usize, clock: u8) -> Turn
-    ensures { λ r. ⌜ a.turnAs r ≡ b.foundTurn step at true (Found.At clock) ⌝ }
+    ensures { λ r. ⌜ a.turnAs r ≡ b.foundTurn step at (Found.At clock) ⌝ }
 {
     if constraint::ticks(step.ticks, clock) {
         return stopped(Limit::TickTwice, at);
@@ -97,33 +95,24 @@ fn tick(step: Step, at: usize, clock: u8) -> Turn
     Turn::Passed(more)
 }
 
-// A change of the variable that was found.
-fn found(step: Step, at: usize, ticks: bool, variable: Found) -> Turn
-    ensures { λ r. ⌜ a.turnAs r ≡ b.foundTurn step at ticks variable ⌝ }
+// A tick of the variable that was found.
+fn found(step: Step, at: usize, variable: Found) -> Turn
+    ensures { λ r. ⌜ a.turnAs r ≡ b.foundTurn step at variable ⌝ }
 {
     let Found::At(clock) = variable else {
         return stopped(Limit::IdUndeclared, at);
     };
-    if ticks {
-        return tick(step, at, clock);
-    }
-    Turn::Passed(step)
+    tick(step, at, clock)
 }
 
-// What the first byte of a change says.
-fn level(byte: u8) -> Level
-    ensures { λ r. ⌜ r ≡ b.levelOf byte ⌝ }
+// Whether a byte is the value of a change.
+fn is_value(byte: u8) -> bool
+    ensures { λ r. ⌜ r ≡ b.isValue byte ⌝ }
 {
-    if byte == 49 {
-        return Level::Tick;
-    }
-    if byte == 48 {
-        return Level::NoTick;
-    }
-    Level::NoChange
+    (byte == 48) | (byte == 49) | (byte == 120) | (byte == 88) | (byte == 122) | (byte == 90)
 }
 
-// A change of a variable.
+// A tick of a variable.
 fn variable<'a>(
     ids: &'a [u64],
     clocks: &'a [u8],
@@ -131,16 +120,15 @@ fn variable<'a>(
     starts: &'a [u8],
     step: Step,
     at: usize,
-    ticks: bool,
     id: &[u8],
 ) -> Turn
     requires { ⌜ Index count (now ids) (now clocks) (now starts) ⌝ }
-    ensures { λ r. ⌜ a.turnAs r ≡ b.variableTurn (variablesOf count (now (ids .entry)) (now (clocks .entry))) step at ticks (now (id .entry)) ⌝ }
+    ensures { λ r. ⌜ a.turnAs r ≡ b.variableTurn (variablesOf count (now (ids .entry)) (now (clocks .entry))) step at (now (id .entry)) ⌝ }
 {
     if !step.begun {
         return stopped(Limit::ChangeBeforeMark, at);
     }
-    found(step, at, ticks, find_id(ids, clocks, count, starts, id))
+    found(step, at, find_id(ids, clocks, count, starts, id))
 }
 
 // A word that opens no mark.
@@ -159,13 +147,10 @@ fn change<'a>(
     if word.len() < 2 {
         return stopped(Limit::BodyWord, at);
     }
-    let said = level(word[0]);
-    let id = &word[1..];
-    match said {
-        Level::Tick => variable(ids, clocks, count, starts, step, at, true, id),
-        Level::NoTick => variable(ids, clocks, count, starts, step, at, false, id),
-        Level::NoChange => stopped(Limit::BodyWord, at),
+    if !is_value(word[0]) {
+        return stopped(Limit::BodyWord, at);
     }
+    variable(ids, clocks, count, starts, step, at, &word[1..])
 }
 
 // The changes of the open step from an offset on, up to the word that closes it.

@@ -56,13 +56,6 @@ pub struct HeaderRead {
     pub body: usize,
 }
 
-// What the first byte of a change says.
-pub enum Level {
-    Tick,
-    NoTick,
-    NoChange,
-}
-
 // The open step, once a mark has begun one: the offset of its mark, its time, and the clocks that tick in it.
 pub struct Step {
     pub begun: bool,

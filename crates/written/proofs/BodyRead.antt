@@ -1,30 +1,31 @@
 -- Marks and ticks that were written are read as the steps. Assumes nothing.
 use Prim.Native.Nat.{ℕ, _+_, _^_, _<_}
-use mathlib.Core.Path.{_≡_, sym, ap, ap₂, _∙_}
+use mathlib.Core.Path.{_≡_, refl, sym, ap, ap₂, _∙_}
 use mathlib.Core.List.{List, [], _∷_, _++_, append-assoc, map}
 use mathlib.Core.Bool.{true, false, _||_, _&&_}
 use native.Mathlib.Decide.{decLt}
 use native.Mathlib.Omega.{arith}
 use borrow.Author.Tests.{ne-eqb, lt-leb}
-use lib.Dec.{leb}
+use lib.Dec.{eqb, leb}
 use lib.ListN.{length, drop, length-append, length-drop}
 use Rattle.limit.specs.Checked.{passed}
 use Rattle.constraint.specs.Ticks.{Ticks, bits, withTick}
 use Rattle.constraint.proofs.TickSets.{bits-zero, with-tick-adds, with-tick-full}
-use Rattle.text.specs.Bytes.{allBytes}
+use Rattle.text.specs.Bytes.{parting, allBytes}
 use Rattle.text.specs.Digits.{digits}
 use Rattle.text.specs.Split.{span, bytesOf}
 use Rattle.text.specs.declared.Class.the-variants.{Parting}
 use Rattle.text.proofs.Decimals.{digits-are, number-of-digits}
 use Rattle.text.proofs.Runs.{words-over}
 use Rattle.grammar.specs.declared.Found.the-variants.{At}
-use Rattle.recording.specs.Body.{begin, opensMark, changeTurn, levelTurn, ended, closing, onward, bodySteps}
+use Rattle.recording.specs.BeforeWords.{recorded}
+use Rattle.recording.specs.Body.{begin, opensMark, isValue, changeTurn, ended, closing, onward, bodySteps}
 use Rattle.recording.specs.Header.{words}
 use Rattle.recording.specs.Variables.{Variable, lookUp}
 use Rattle.recording.specs.declared.Step.{Step}
 use Rattle.recording.proofs.BodyLaws.{body-done, body-mark, body-change}
-use Rattle.written.specs.Claim.{clockAt, readSteps, Each, Apart, Differ}
-use Rattle.written.specs.Layout.{WrittenVariable, WrittenStep, texts, mark, tick, variableAt, tickAt, step}
+use Rattle.written.specs.Claim.{clockOf, readSteps, Each, Apart, Value, is-0, is-1, is-x, is-X, is-z, is-Z, Differ}
+use Rattle.written.specs.Layout.{WrittenVariable, WrittenTick, WrittenStep, texts, mark, tick, variableAt, tickAt, step}
 use Rattle.written.proofs.EachLaws.{each-all, each-to, each-with}
 use Rattle.written.proofs.LineLaws.{outside, Word, first-text, other-texts, behind-texts, left-behind, line-words, line-byte}
 use Rattle.written.proofs.TickLaws.{ticked, ticked-set}
@@ -34,18 +35,33 @@ use Rattle.written.proofs.TickLaws.{ticked, ticked-set}
 mark-word : (t : ℕ) → Word (35 ∷ digits t)
 mark-word t = record { some = omega arith; whole = unfold allBytes in digits-are outside (λ d h. rw (ne-eqb (48 + d) 9 (λ z. omega arith), ne-eqb (48 + d) 10 (λ z. omega arith), ne-eqb (48 + d) 13 (λ z. omega arith), ne-eqb (48 + d) 32 (λ z. omega arith))) t }
 
-tick-word : (id : List ℕ) → Word id → Word (49 ∷ id)
-tick-word id g = record { some = omega arith; whole = unfold allBytes in g .whole }
+-- a value is a byte of a recording and of a word, opens no mark, and is read as a value
+pub record Plain (v : ℕ) : Type 0 where
+  pub byte : recorded v ≡ true
+  pub inside : parting v ≡ false
+  pub no-mark : eqb v 35 ≡ false
+  pub value : isValue v ≡ true
+
+pub plain : {v : ℕ} → Value v → Plain v
+plain is-0 = record { byte = refl; inside = refl; no-mark = refl; value = refl }
+plain is-1 = record { byte = refl; inside = refl; no-mark = refl; value = refl }
+plain is-x = record { byte = refl; inside = refl; no-mark = refl; value = refl }
+plain is-X = record { byte = refl; inside = refl; no-mark = refl; value = refl }
+plain is-z = record { byte = refl; inside = refl; no-mark = refl; value = refl }
+plain is-Z = record { byte = refl; inside = refl; no-mark = refl; value = refl }
+
+tick-word : (v : ℕ) (id : List ℕ) → Plain v → Word id → Word (v ∷ id)
+tick-word v id p g = record { some = omega arith; whole = unfold allBytes in rw (p .inside) (g .whole) }
 
 -- a step that is begun, with a tick set
 abbrev pub openStep : (mark time ticks : ℕ) → Step
 openStep m t f = record { begun = true; mark = record { 0 = m }; time = record { 0 = t }; ticks = f }
 
-tick-turn : (us : List Variable) (m t f at k : ℕ) (id : List ℕ) → Word id → lookUp us id ≡ At k → bits f k ≡ false
-    → changeTurn us (openStep m t f) at (49 ∷ id) ≡ passed (openStep m t (withTick f k))
-unfolding changeTurn levelTurn
-tick-turn us m t f at k [] g l e = absurd (omega (arith, g .some))
-tick-turn us m t f at k (i ∷ is) g l e = rw (l, e)
+tick-turn : (us : List Variable) (m t f at k v : ℕ) (id : List ℕ) → Plain v → Word id → lookUp us id ≡ At k → bits f k ≡ false
+    → changeTurn us (openStep m t f) at (v ∷ id) ≡ passed (openStep m t (withTick f k))
+unfolding changeTurn
+tick-turn us m t f at k v [] p g l e = absurd (omega (arith, g .some))
+tick-turn us m t f at k v (i ∷ is) p g l e = rw (p .value, l, e)
 
 module _ (us : List Variable) (r : List ℕ) where
   -- a line with a mark
@@ -57,13 +73,13 @@ module _ (us : List Variable) (r : List ℕ) where
       body-mark us r o (words r at) _ _ (line-words r [] (35 ∷ digits t) at s (mark-word t) d) (ap opensMark b) ∙ rw (b, number-of-digits t h, e)
 
   -- a line with a tick
-  tick-read : (m t f at k : ℕ) (id s : List ℕ) → drop at r ≡ tick id ++ s → Word id → lookUp us id ≡ At k → bits f k ≡ false
-      → bodySteps us r (openStep m t f) (words r at) ≡ bodySteps us r (openStep m t (withTick f k)) (words r (at + length (tick id)))
+  tick-read : (m t f at k v : ℕ) (id s : List ℕ) → drop at r ≡ tick v id ++ s → Plain v → Word id → lookUp us id ≡ At k → bits f k ≡ false
+      → bodySteps us r (openStep m t f) (words r at) ≡ bodySteps us r (openStep m t (withTick f k)) (words r (at + length (tick v id)))
   unfolding onward
-  tick-read m t f at k id s d g l e =
-      let b : bytesOf r (span at (at + length (49 ∷ id))) ≡ 49 ∷ id = line-byte r (49 ∷ id) at s d in
-      body-change us r (openStep m t f) (words r at) _ _ (line-words r [] (49 ∷ id) at s (tick-word id g) d) (ap opensMark b)
-      ∙ rw (b, tick-turn us m t f at k id g l e)
+  tick-read m t f at k v id s d p g l e =
+      let b : bytesOf r (span at (at + length (v ∷ id))) ≡ v ∷ id = line-byte r (v ∷ id) at s d in
+      body-change us r (openStep m t f) (words r at) _ _ (line-words r [] (v ∷ id) at s (tick-word v id p g) d) (ap opensMark b ∙ p .no-mark)
+      ∙ rw (b, tick-turn us m t f at k v id p g l e)
 
 -- ---- ticks of one step
 
@@ -76,21 +92,22 @@ still-silent f j k h e = go (decLt k 32)
     go (no s) = ap (λ (g : ℕ). bits g j) (sym (with-tick-full f k (omega arith))) ∙ h
 
 module _ (named : List ℕ → ℕ) (vs : List WrittenVariable) (us : List Variable) (r : List ℕ) where
-  abbrev clock : ℕ → ℕ
-  clock i = clockAt named vs i
+  abbrev clock : WrittenTick → ℕ
+  clock i = clockOf named vs i
 
-  -- a variable that was declared
-  pub record Known (i : ℕ) : Type 0 where
-    pub word : Word (variableAt vs i .id)
-    pub found : lookUp us (variableAt vs i .id) ≡ At (clock i)
+  -- a tick with a value, of a variable that was declared
+  pub record Known (i : WrittenTick) : Type 0 where
+    pub plain : Plain (i .value)
+    pub word : Word (variableAt vs (i .variable) .id)
+    pub found : lookUp us (variableAt vs (i .variable) .id) ≡ At (clock i)
 
-  ticks-read : (is : List ℕ) (m t f at : ℕ) (s : List ℕ) → drop at r ≡ texts (tickAt vs) is ++ s
+  ticks-read : (is : List WrittenTick) (m t f at : ℕ) (s : List ℕ) → drop at r ≡ texts (tickAt vs) is ++ s
       → Each Known is → Each (λ i. bits f (clock i) ≡ false) is → Apart (λ i j. Differ (clock i) (clock j)) is
       → bodySteps us r (openStep m t f) (words r at) ≡ bodySteps us r (openStep m t (ticked f (map clock is))) (words r (at + length (texts (tickAt vs) is)))
   unfolding texts ticked Each Apart
   ticks-read [] m t f at s d k q a = let z : at + 0 ≡ at = omega arith in rw z
   ticks-read (i ∷ is) m t f at s d k q a =
-      tick-read us r m t f at (clock i) (variableAt vs i .id) (texts (tickAt vs) is ++ s) (first-text r at (tickAt vs) i is s d) (k .0 .word) (k .0 .found) (q .0)
+      tick-read us r m t f at (clock i) (i .value) (variableAt vs (i .variable) .id) (texts (tickAt vs) is ++ s) (first-text r at (tickAt vs) i is s d) (k .0 .plain) (k .0 .word) (k .0 .found) (q .0)
       ∙ ticks-read is m t (withTick f (clock i)) (at + length (tickAt vs i)) s (other-texts r at (tickAt vs) i is s d) (k .1)
       (each-with is (λ j h e. still-silent f (clock j) (clock i) h e) (q .1) (a .0)) (a .1)
       ∙ ap (λ (j : ℕ). bodySteps us r (openStep m t (ticked (withTick f (clock i)) (map clock is))) (words r j)) (behind-texts r at (tickAt vs) i is s d)

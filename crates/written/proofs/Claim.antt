@@ -21,9 +21,9 @@ use Rattle.recording.specs.Body.{unmarked, closing, onward, reading}
 use Rattle.recording.specs.Header.{words, opened}
 use Rattle.recording.specs.Variables.{Variable, withId, hasClock, clockAgain, allDeclared}
 use Rattle.recording.proofs.BeforeWords.{before-words}
-use Rattle.written.specs.Claim.{variables, clockAt, asRead, Each, Apart, graphic, Graphic, Writable, WrittenIsRead, byName}
-use Rattle.written.specs.Layout.{WrittenVariable, WrittenStep, line, texts, declarationWords, declaration, definitionsEnd, mark, tickAt, variableAt, step, header, written, two, three}
-use Rattle.written.proofs.BodyRead.{Known, steps-read}
+use Rattle.written.specs.Claim.{variables, asRead, Each, Apart, graphic, Graphic, is-0, is-1, is-x, Writable, WrittenIsRead, byName}
+use Rattle.written.specs.Layout.{WrittenVariable, WrittenTick, WrittenStep, line, texts, declarationWords, declaration, definitionsEnd, mark, tickAt, variableAt, step, header, written, two, three}
+use Rattle.written.proofs.BodyRead.{Plain, plain, Known, steps-read}
 use Rattle.written.proofs.EachLaws.{each-all, each-to, each-with, each-at}
 use Rattle.written.proofs.HeaderRead.{graphic-word, declarations-read, end-read}
 use Rattle.written.proofs.LineLaws.{left-behind}
@@ -64,14 +64,14 @@ mark-recorded t =
     line-recorded [] (35 ∷ digits t)
     (digits-are recorded (λ d h. rw (le-leb 33 (48 + d) (omega arith), le-leb (48 + d) 126 (omega arith)) (or-true (parting (48 + d)))) t)
 
-tick-recorded : (vs : List WrittenVariable) (i : ℕ) → Graphic (variableAt vs i .id) → Recorded (tickAt vs i)
+tick-recorded : (vs : List WrittenVariable) (i : WrittenTick) → Plain (i .value) → Graphic (variableAt vs (i .variable) .id) → Recorded (tickAt vs i)
 unfolding allBytes
-tick-recorded vs i g = line-recorded [] (49 ∷ variableAt vs i .id) (graphic-recorded (variableAt vs i .id) (g .bytes))
+tick-recorded vs i p g = line-recorded [] (i .value ∷ variableAt vs (i .variable) .id) (rw (p .byte) (graphic-recorded (variableAt vs (i .variable) .id) (g .bytes)))
 
 -- ---- look-ups
 
 found-at : (named : List ℕ → ℕ) (vs : List WrittenVariable) (i : ℕ) → i < length vs → Apart (λ u v. u .id ≡ v .id → ⊥) vs
-    → withId (variables named vs) (variableAt vs i .id) ≡ At (clockAt named vs i)
+    → withId (variables named vs) (variableAt vs i .id) ≡ At (named (variableAt vs i .name))
 unfolding withId Apart
 found-at named [] i h d = absurd (omega arith)
 found-at named (v ∷ vs) zero h d = rw (equal-same (v .id))
@@ -106,24 +106,33 @@ module _ (named : List ℕ → ℕ) (n : ℕ) (vs : List WrittenVariable) (ss : 
   id-at : (i : ℕ) → i < length vs → Graphic (variableAt vs i .id)
   id-at i h = each-at (record { id = []; name = [] }) (λ v. Graphic (v .id)) vs i (ok .ids) h
 
-  known : (i : ℕ) → i < length vs → Known named vs us text i
+  -- the value and the variable of each tick
+  abbrev Ticks : (i : WrittenTick) → Type 0
+  Ticks i = Plain (i .value) × (i .variable < length vs)
+
+  ticks : Each (λ s. Each Ticks (s .ticks)) ss
+  ticks = each-with ss (λ s p h. each-with (s .ticks) (λ i u e. (plain u, e)) p h) (ok .values) (ok .declared)
+
+  known : (i : WrittenTick) → Ticks i → Known named vs us text i
   known i h =
-      let short : length (variableAt vs i .id) ≤ 4 = each-at (record { id = []; name = [] }) (λ v. length (v .id) ≤ 4) vs i (ok .short) h in
+      let v = variableAt vs (i .variable) in
+      let short : length (v .id) ≤ 4 = each-at (record { id = []; name = [] }) (λ u. length (u .id) ≤ 4) vs (i .variable) (ok .short) (h .1) in
       record {
-        word = graphic-word (variableAt vs i .id) (id-at i h);
-        found = rw (le-leb (length (variableAt vs i .id)) 4 short) (found-at named vs i h (ok .distinct));
+        plain = h .0;
+        word = graphic-word (v .id) (id-at (i .variable) (h .1));
+        found = rw (le-leb (length (v .id)) 4 short) (found-at named vs (i .variable) (h .1) (ok .distinct));
       }
 
-  step-recorded : (s : WrittenStep) → Each (λ i. i < length vs) (s .ticks) → Recorded (step vs s)
+  step-recorded : (s : WrittenStep) → Each Ticks (s .ticks) → Recorded (step vs s)
   step-recorded s e =
       all-append recorded (mark (s .time)) (texts (tickAt vs) (s .ticks)) (mark-recorded (s .time))
-      (texts-recorded (tickAt vs) (s .ticks) (each-to (s .ticks) (λ i h. tick-recorded vs i (id-at i h)) e))
+      (texts-recorded (tickAt vs) (s .ticks) (each-to (s .ticks) (λ i h. tick-recorded vs i (h .0) (id-at (i .variable) (h .1))) e))
 
   text-recorded : Recorded text
   text-recorded =
       all-append recorded (header vs) body
       (all-append recorded (texts declaration vs) definitionsEnd (texts-recorded declaration vs (each-with vs declaration-recorded (ok .ids) (ok .names))) end-recorded)
-      (texts-recorded (step vs) ss (each-to ss step-recorded (ok .declared)))
+      (texts-recorded (step vs) ss (each-to ss step-recorded ticks))
 
   declarations-left : drop 0 text ≡ texts declaration vs ++ (definitionsEnd ++ body)
   declarations-left = append-assoc (texts declaration vs) definitionsEnd body
@@ -150,7 +159,7 @@ module _ (named : List ℕ → ℕ) (n : ℕ) (vs : List WrittenVariable) (ss : 
   is-read =
       rw header-read
       (steps-read named vs us text ss unmarked (length (header vs)) body-left (ok .times) (each-all ss (λ s. refl)) (ok .rise)
-      (each-to ss (λ s e. each-to (s .ticks) known e) (ok .declared)) (ok .single))
+      (each-to ss (λ s e. each-to (s .ticks) known e) ticks) (ok .single))
 
 pub written-is-read : WrittenIsRead
 written-is-read = is-read
@@ -178,6 +187,7 @@ three-may-be-written = record {
   few = omega arith;
   times = (omega arith, (omega arith, (omega arith, tt)));
   rise = ((omega arith, (omega arith, tt)), ((omega arith, tt), (tt, tt)));
+  values = ((is-1, tt), (tt, ((is-x, (is-0, tt)), tt)));
   declared = ((omega arith, tt), (tt, ((omega arith, (omega arith, tt)), tt)));
   single = ((tt, tt), (tt, (((λ e. absurd (omega (arith, e)), tt), (tt, tt)), tt)));
   fits = omega arith;

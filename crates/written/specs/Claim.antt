@@ -13,7 +13,7 @@ use Rattle.text.specs.Digits.{digits, digitsOf}
 use Rattle.recording.specs.Body.{Reading, ended, reading}
 use Rattle.recording.specs.Variables.{Variable, hasClock, ignored}
 use Rattle.recording.specs.declared.Step.{Step}
-use Rattle.written.specs.Layout.{WrittenVariable, WrittenStep, line, texts, variableAt, step, header, written, two, three}
+use Rattle.written.specs.Layout.{WrittenVariable, WrittenTick, WrittenStep, line, texts, variableAt, step, header, written, two, three}
 
 -- ---- what reading is to give
 
@@ -21,17 +21,17 @@ use Rattle.written.specs.Layout.{WrittenVariable, WrittenStep, line, tex
 abbrev pub variables : (named : List ℕ → ℕ) → List WrittenVariable → List Variable
 variables named vs = map (λ v. record { id = v .id; clock = named (v .name) }) vs
 
--- the number of the clock of the variable at an index
-abbrev pub clockAt : (named : List ℕ → ℕ) → List WrittenVariable → ℕ → ℕ
-clockAt named vs i = named (variableAt vs i .name)
+-- the number of the clock that ticks
+abbrev pub clockOf : (named : List ℕ → ℕ) → List WrittenVariable → WrittenTick → ℕ
+clockOf named vs i = named (variableAt vs (i .variable) .name)
 
--- a step with its mark at an offset; of the variables that tick, those that are clocks of the table
+-- a step with its mark at an offset; of the variables that tick, whatever their values, those that are clocks of the table
 abbrev pub readStep : (named : List ℕ → ℕ) → List WrittenVariable → (at : ℕ) → WrittenStep → Step
 readStep named vs at s = record {
   begun = true;
   mark = record { 0 = at };
   time = record { 0 = s .time };
-  ticks = number 32 (addingAll (map (clockAt named vs) (s .ticks)) none);
+  ticks = number 32 (addingAll (map (clockOf named vs) (s .ticks)) none);
 }
 
 -- the steps, the first of which has its mark at an offset
@@ -61,6 +61,15 @@ pub record Graphic (w : List ℕ) : Type 0 where
   pub some : 0 < length w
   pub bytes : allBytes graphic w ≡ true
 
+-- document 02, M-100: each of 0, 1, x, X, z, Z
+pub data Value : ℕ → Type 0 where
+  is-0 : Value 48
+  is-1 : Value 49
+  is-x : Value 120
+  is-X : Value 88
+  is-z : Value 122
+  is-Z : Value 90
+
 -- not the same clock of the table
 abbrev pub Differ : ℕ → ℕ → Type 0
 Differ j k = j ≡ k → j ≡ ignored
@@ -78,9 +87,10 @@ pub record Writable (named : List ℕ → ℕ) (n : ℕ) (vs : List WrittenVaria
   -- times rise
   pub times : Each (λ s. s .time < 2 ^ 64) ss
   pub rise : Apart (λ s t. s .time < t .time) ss
-  -- variables tick, no clock of the table twice in a step
-  pub declared : Each (λ s. Each (λ i. i < length vs) (s .ticks)) ss
-  pub single : Each (λ s. Apart (λ i j. Differ (clockAt named vs i) (clockAt named vs j)) (s .ticks)) ss
+  -- variables tick, with any of the values, no clock of the table twice in a step
+  pub values : Each (λ s. Each (λ i. Value (i .value)) (s .ticks)) ss
+  pub declared : Each (λ s. Each (λ i. i .variable < length vs) (s .ticks)) ss
+  pub single : Each (λ s. Apart (λ i j. Differ (clockOf named vs i) (clockOf named vs j)) (s .ticks)) ss
   pub fits : length (written vs ss) ≤ 65_536
 
 abbrev pub WrittenIsRead : Type 0

@@ -12,10 +12,15 @@ pub record WrittenVariable : Type 0 where
   pub id : List ℕ
   pub name : List ℕ
 
--- a step: its time, and the variables that tick, by their indexes
+-- a tick: the byte that is written as its value, and the variable, by its index
+pub record WrittenTick : Type 0 where
+  pub value : ℕ
+  pub variable : ℕ
+
+-- a step: its time, and its ticks
 pub record WrittenStep : Type 0 where
   pub time : ℕ
-  pub ticks : List ℕ
+  pub ticks : List WrittenTick
 
 -- a line by its first word and the others
 unfoldable pub line : List ℕ → List (List ℕ) → List ℕ
@@ -41,15 +46,14 @@ definitionsEnd = line (ascii "$enddefinitions") (ascii "$end" ∷ [])
 abbrev pub mark : (time : ℕ) → List ℕ
 mark t = line (35 ∷ digits t) []
 
--- `1` is byte 49
-abbrev pub tick : (id : List ℕ) → List ℕ
-tick i = line (49 ∷ i) []
+abbrev pub tick : (value : ℕ) (id : List ℕ) → List ℕ
+tick b i = line (b ∷ i) []
 
 abbrev pub variableAt : List WrittenVariable → ℕ → WrittenVariable
 variableAt vs i = getD vs i (record { id = []; name = [] })
 
-abbrev pub tickAt : List WrittenVariable → ℕ → List ℕ
-tickAt vs i = tick (variableAt vs i .id)
+abbrev pub tickAt : List WrittenVariable → WrittenTick → List ℕ
+tickAt vs i = tick (i .value) (variableAt vs (i .variable) .id)
 
 abbrev pub step : List WrittenVariable → WrittenStep → List ℕ
 step vs s = mark (s .time) ++ texts (tickAt vs) (s .ticks)
@@ -65,9 +69,14 @@ written vs ss = header vs ++ texts (step vs) ss
 abbrev pub two : List WrittenVariable
 two = record { id = ascii "!"; name = ascii "req" } ∷ record { id = ascii "\"\""; name = ascii "ack" } ∷ []
 
+-- a `1`, and in the last step an `x` and a `0`
 abbrev pub three : List WrittenStep
-three = record { time = 0; ticks = 0 ∷ [] } ∷ record { time = 7; ticks = [] } ∷ record { time = 120; ticks = 1 ∷ 0 ∷ [] } ∷ []
+three =
+    record { time = 0; ticks = record { value = 49; variable = 0 } ∷ [] }
+    ∷ record { time = 7; ticks = [] }
+    ∷ record { time = 120; ticks = record { value = 120; variable = 1 } ∷ record { value = 48; variable = 0 } ∷ [] }
+    ∷ []
 
-three-steps : written two three ≡ ascii "$var event 1 ! req $end\n$var event 1 \"\" ack $end\n$enddefinitions $end\n#0\n1!\n#7\n#120\n1\"\"\n1!\n"
+three-steps : written two three ≡ ascii "$var event 1 ! req $end\n$var event 1 \"\" ack $end\n$enddefinitions $end\n#0\n1!\n#7\n#120\nx\"\"\n0!\n"
 unfolding line texts digits digitsOf
 three-steps = refl

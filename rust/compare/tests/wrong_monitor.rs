@@ -37,6 +37,24 @@ fn starts_with_zeros(case: &Case) -> Answer {
     }
 }
 
+/// Whether a word is a change with another value than `1`.
+fn other_value(word: &[u8]) -> bool {
+    word.len() > 1 && b"0xXzZ".contains(&word[0])
+}
+
+/// A monitor that is blind to every change with another value than `1`.
+fn only_ones_tick(case: &Case) -> Answer {
+    let mut case = case.clone();
+    if let Case::Run { recording, .. } = &mut case {
+        let words = recording.split_mut(u8::is_ascii_whitespace);
+        words
+            .skip_while(|word| *word != b"$enddefinitions")
+            .filter(|word| other_value(word))
+            .for_each(|word| word.fill(b' '));
+    }
+    second(&case)
+}
+
 /// A monitor that breaks off at a step at time 7.
 fn breaks_off(case: &Case) -> Answer {
     if let Case::Run { recording, .. } = case {
@@ -82,6 +100,21 @@ fn wrong_start_words_are_found_with_one_record() {
         panic!("{mismatch}")
     };
     assert_eq!(records.len(), 1, "{mismatch}");
+}
+
+#[test]
+fn a_value_that_is_no_tick_is_found_with_one_change() {
+    let mismatch = found(only_ones_tick);
+    let Case::Run { recording, .. } = &mismatch.case else {
+        panic!("{mismatch}")
+    };
+    let words = recording.split(u8::is_ascii_whitespace);
+    assert_eq!(
+        words.filter(|word| other_value(word)).count(),
+        1,
+        "{mismatch}"
+    );
+    assert!(recording.len() < 120, "{mismatch}");
 }
 
 #[test]

@@ -18,7 +18,13 @@ pub struct Filtered {
 }
 
 /// The commands whose blocks hold values that were dumped, and no change.
-const DUMPS: [&[u8]; 4] = [b"$dumpvars", b"$dumpall", b"$dumpon", b"$dumpoff"];
+const DUMPS: [&[u8]; 4] = [b"$dumpvars", b"$dumpall", b"$dumpon", DUMP_OFF];
+
+/// Its block has an `x` for every variable, and says that nothing more is recorded.
+const DUMP_OFF: &[u8] = b"$dumpoff";
+
+/// What the checker takes for a value of an event.
+const VALUES: [u8; 6] = *b"01xXzZ";
 
 /// The commands of the header that hold text, up to their `$end`.
 const TEXTS: [&[u8]; 6] = [
@@ -114,7 +120,7 @@ impl<'a> Filter<'a> {
                 (Piece::Taken, behind)
             }),
             _ if DUMPS.contains(&word) => self.values(rest).map(|(events, behind)| {
-                self.said.block(word, events);
+                self.said.block(word, events && word != DUMP_OFF);
                 (Piece::Taken, behind)
             }),
             _ => Some(self.change(word, rest)),
@@ -154,7 +160,7 @@ impl<'a> Filter<'a> {
 
     /// Whether a word is a tick of a variable that is left.
     fn is_tick(&self, word: &[u8]) -> bool {
-        word[0] == b'1' && self.events.contains(&word[1..])
+        VALUES.contains(&word[0]) && self.events.contains(&word[1..])
     }
 
     /// A command without an `$end` of its own is left.

@@ -1,6 +1,6 @@
 //! Recordings at both sides of the limits 30 to 44.
 
-use super::recordings::{any_id, change, command, variable, word, Recording};
+use super::recordings::{any_id, change, command, value, variable, word, Recording};
 use super::tables::Word;
 use crate::random::Random;
 use second_opinion::Table;
@@ -168,7 +168,8 @@ fn cut_off(random: &mut Random, _: &Table, recording: &mut Recording) {
 /// 40: a word that is no mark and no change, or one that looks like none.
 fn strange_word(random: &mut Random, _: &Table, recording: &mut Recording) {
     let words =
-        "1 0 # #1x #-1 #+1 #x ## 2! x! z! X! b1010 r1.5 $dumpvars $end $comment ! 11 #1.5 #1#";
+        "1 0 x X z Z # #1x #-1 #+1 #x ## 2! b! bx! B! r! R! u! y! Y! -! /! [! {! b1010 r1.5 \
+        $dumpvars $end $comment ! 11 xx ZZ #1.5 #1#";
     let strange = word(random.pick_word(words));
     insert(random, recording, strange);
 }
@@ -214,7 +215,7 @@ fn early_change(random: &mut Random, _: &Table, recording: &mut Recording) {
 
 /// A change of some variable, mostly a declared one.
 fn any_change(random: &mut Random, recording: &Recording) -> Word {
-    let value = random.pick(b"01");
+    let value = value(random);
     if recording.ids.is_empty() || random.once_in(4) {
         return change(value, &any_id(random, 4));
     }
@@ -229,31 +230,31 @@ fn undeclared_id(random: &mut Random, _: &Table, recording: &mut Recording) {
         match random.below(4) {
             0 => id.resize(random.within(4..=6), b'!'),
             1 => id.push(b'!'),
-            2 => id.insert(0, b'0'),
+            2 => id.insert(0, value(random)),
             _ => id.resize(random.within(5..=300), b'~'),
         }
     }
-    let value = random.pick(b"01");
+    let value = value(random);
     insert(random, recording, change(value, &id));
 }
 
-/// 44 and its other side: a tick again in the same step, with `0` between or not; or a tick of an
-/// ignored variable.
+/// 44 and its other side: a tick again in the same step, with any value, behind other words or
+/// not; or a tick of an ignored variable.
 fn second_tick(random: &mut Random, _: &Table, recording: &mut Recording) {
     let ticks: Vec<usize> = (0..recording.body.len())
-        .filter(|place| recording.body[*place].starts_with(b"1"))
+        .filter(|place| !recording.body[*place].starts_with(b"#"))
         .collect();
     if ticks.is_empty() {
         let more = any_change(random, recording);
-        recording.body.extend([word("#77"), more.clone(), more]);
+        let again = change(value(random), &more[1..]);
+        recording.body.extend([word("#77"), more, again]);
         return;
     }
     let place = random.pick(&ticks);
-    let tick = recording.body[place].clone();
-    recording.body.insert(place + 1, tick.clone());
-    if random.once_in(3) {
-        recording.body.insert(place + 1, change(b'0', &tick[1..]));
-    }
+    let again = change(value(random), &recording.body[place][1..]);
+    let behind = recording.body.len() - place;
+    let to = place + random.within(1..=behind.min(3));
+    recording.body.insert(to, again);
 }
 
 /// 32 or 36: a command that nothing closes before the next does.

@@ -118,7 +118,7 @@ fn ids(random: &mut Random, count: usize) -> Vec<Word> {
 /// An id of at most so many bytes, sometimes one that looks like something else.
 pub fn any_id(random: &mut Random, longest: usize) -> Word {
     if random.once_in(12) {
-        return word(random.pick_word("0 1 # $end #0 00 11 $var 1! 0\" ~~~~"));
+        return word(random.pick_word("0 1 x Z # $end #0 00 11 xx z# $var 1! 0\" ~~~~"));
     }
     (0..random.within(1..=longest))
         .map(|_| random.within(33..=126) as u8)
@@ -267,7 +267,12 @@ fn violation(
     }
 }
 
-/// The words of one step: its mark, its ticks in any order, and words that say nothing between
+/// Any value of a change.
+pub fn value(random: &mut Random) -> u8 {
+    random.pick(b"01xXzZ")
+}
+
+/// The words of one step: its mark, its ticks in any order, and ticks of ignored variables between
 /// them, unless it is to be plain.
 fn step_words(
     random: &mut Random,
@@ -279,18 +284,14 @@ fn step_words(
     let mut changes: Vec<Word> = Vec::new();
     for (clock, id) in recording.ids.iter().enumerate().take(recording.clocks) {
         if set >> clock & 1 == 1 {
-            changes.push(change(b'1', id));
+            let value = if plain { b'1' } else { value(random) };
+            changes.push(change(value, id));
         }
     }
     if !plain {
-        while !recording.ids.is_empty() && random.once_in(3) {
-            let place = random.below(recording.ids.len());
-            let value = if place < recording.clocks {
-                b'0'
-            } else {
-                random.pick(b"01")
-            };
-            changes.push(change(value, &recording.ids[place]));
+        let ignored = &recording.ids[recording.clocks..];
+        while !ignored.is_empty() && random.once_in(2) {
+            changes.push(change(value(random), &random.pick(ignored)));
         }
         random.shuffle(&mut changes);
     }

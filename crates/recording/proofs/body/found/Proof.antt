@@ -6,13 +6,10 @@ use Rattle.recording.proofs.body.found.Statement.{statement}
 use Rattle.recording.proofs.body.found.Tie as tie
 
 returns : tie.Need-returns
-returns c = c .stopped .ensures ∙ ap (foundTurn _ _ _) (sym (c .before .enum-told .given .1))
+returns c = c .stopped .ensures ∙ ap (foundTurn _ _) (sym (c .before .enum-told .given .1))
 
 returns-2 : tie.Need-returns-2
-returns-2 c = c .tick .ensures ∙ rw (c .before .if1 .taken, c .before .before .before .variable .given .1)
-
-returns-3 : tie.Need-returns-3
-returns-3 c = rw (c .if1 .left, c .before .before .variable .given .1)
+returns-2 c = c .tick .ensures ∙ ap (foundTurn _ _) (sym (c .before .before .variable .given .1))
 
 pub found-spec : {M : Type 1} → statement M
 found-spec =
@@ -23,5 +20,4 @@ found-spec =
     (λ c κs. search needs)
     returns
     (λ c κs. search needs)
-    returns-2
-    returns-3)
+    returns-2)
