@@ -6,9 +6,10 @@
 //! given configuration, and whether two configurations stand at the same
 //! place."
 //!
-//! The crate is written from the scope paper (document 01) alone, and shares
-//! nothing with the monitor that it is held against. Quoted sentences in these
-//! comments are that paper's.
+//! The crate is written from the scope paper (document 01) and the change
+//! requests (document 02) alone, and shares nothing with the monitor that it is
+//! held against. Quoted sentences in these comments are the scope paper's, or a
+//! request's where one is named.
 
 #![forbid(unsafe_code)]
 #![warn(missing_docs)]

@@ -6,6 +6,9 @@ use crate::recording::{self, Variable, Variables, Word, Words};
 use crate::step::{advance, start, Stop};
 use crate::{read_table, Configuration, Record, Refusal, Table, WORDS};
 
+/// The values that a change may open with.
+const VALUES: [char; 6] = ['0', '1', 'x', 'X', 'z', 'Z'];
+
 /// "The verdict is `accepted`, or `violated` with table line and time, or
 /// `refused` with number and place."
 #[derive(Clone, Copy, Debug, PartialEq, Eq)]
@@ -178,21 +181,18 @@ fn mark(word: Word, digits: &str, last: Option<Time>) -> Result<OpenStep, Refusa
     })
 }
 
-/// "`1` and an id is a tick. `0` and an id says no tick." Asked in this order:
-/// 40 no such change, 42 before any mark, 43 id undeclared, 44 "a table clock's
-/// second tick in a step".
+/// "Each of 0, 1, x, X, z, Z before an id is now a tick" (document 02, M-100).
+/// Asked in this order: 40 no such change, 42 before any mark, 43 id undeclared,
+/// 44 "a table clock's second tick in a step".
 fn change(word: Word, variables: &Variables, open: Option<&mut OpenStep>) -> Result<(), Refusal> {
-    let (ticks, id) = match (word.text.strip_prefix('1'), word.text.strip_prefix('0')) {
-        (Some(id), _) => (true, id),
-        (_, Some(id)) => (false, id),
-        (None, None) => return Err(word.refuse(40)),
-    };
-    if id.is_empty() {
-        return Err(word.refuse(40));
-    }
+    let id = word
+        .text
+        .strip_prefix(VALUES)
+        .filter(|id| !id.is_empty())
+        .ok_or_else(|| word.refuse(40))?;
     let step = open.ok_or_else(|| word.refuse(42))?;
     let variable = variables.get(id).ok_or_else(|| word.refuse(43))?;
-    if let (true, Variable::Clock(clock)) = (ticks, variable) {
+    if let Variable::Clock(clock) = variable {
         let bit = 1 << clock;
         if step.ticks & bit != 0 {
             return Err(word.refuse(44));

@@ -47,6 +47,8 @@ fn random_words_make_no_run_panic() {
         "#3",
         "1!",
         "0!",
+        "x!",
+        "Z!",
         "1\"",
         "#",
         "$date",
@@ -133,7 +135,7 @@ fn a_run_does_what_its_single_steps_do() {
             let mut by_number = 0;
             for (id, name) in (0..5).zip(["a", "b", "c", "d", "e"]) {
                 if ticks & 1 << id != 0 {
-                    recording += &format!(" 1{id}");
+                    recording += &format!(" {}{id}", numbers.pick(&VALUES));
                     by_number |= 1 << number(name).expect("a clock");
                 }
             }

@@ -1,4 +1,5 @@
-//! The section "Edges": ten rows, and the list "Run as tests".
+//! The section "Edges": ten rows, and the list "Run as tests", with `0!` as
+//! M-100 has it.
 
 mod common;
 
@@ -180,9 +181,13 @@ fn precedence_at_1_000_000_with_a_is_51_and_with_a_and_b_holds_unchanged() {
 }
 
 #[test]
-fn zero_and_an_id_in_a_step_is_no_tick() {
+fn m_100_zero_and_an_id_in_a_step_is_a_tick() {
     let recording = format!("{HEADER}#0 1! 0\" #1 0!");
-    assert_eq!(verdict("a # b", recording), (Verdict::Accepted, 2));
+    let violated = Verdict::Violated { line: 1, time: 0 };
+    assert_eq!(verdict("a # b", recording), (violated, 0));
+    let report = run(b"a precedes b", format!("{HEADER}#0 0! #1 0!").as_bytes());
+    assert_eq!((report.verdict, report.steps), (Verdict::Accepted, 2));
+    assert_eq!(report.configuration, words(&[2]));
 }
 
 #[test]

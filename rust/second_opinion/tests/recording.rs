@@ -1,4 +1,5 @@
-//! The recording: readings 21 to 36.
+//! The recording: readings 21 to 36, and M-100's readings 1 to 6, with which 34
+//! fell.
 
 mod common;
 
@@ -269,7 +270,8 @@ fn reading_29_after_30_to_37_the_configuration_is_the_start_words() {
 #[test]
 fn reading_30_words_that_are_neither_mark_nor_change_are_40() {
     for word in [
-        "1", "0", "#", "#x", "#1x", "#-1", "#+1", "#1.5", "x!", "2!", "z!", "b1", "!", "$",
+        "1", "0", "x", "X", "z", "Z", "#", "#x", "#1x", "#-1", "#+1", "#1.5", "2!", "b1", "bx",
+        "b1!", "bx!", "r1.5", "r1.5!", "B", "B!", "R", "R!", "u", "u!", "-", "-!", "!", "$",
     ] {
         assert_eq!(
             body(&format!("#1 {word} #2")),
@@ -332,13 +334,6 @@ fn reading_33_40_before_42_before_43_before_44() {
 }
 
 #[test]
-fn reading_34_a_zero_takes_no_tick_back() {
-    assert_eq!(body("#1 1! 0! 1!"), refused_run(44, 9, 0));
-    assert_eq!(body("#1 1! 0! 1\""), violated(1, 1, 0));
-    assert_eq!(body("#1 0! 0! 0! 1! #2 1!"), (ACCEPTED, 2));
-}
-
-#[test]
 fn reading_35_an_ignored_variable_may_tick_any_number_of_times() {
     let recording = format!("$var event 1 ? x $end {HEADER}#1 1? 1? 0? 1? 1! #2 1?");
     assert_eq!(verdict(TABLE, recording), (ACCEPTED, 2));
@@ -349,6 +344,147 @@ fn reading_36_with_no_mark_the_recording_is_accepted_with_the_start_words() {
     let report = run(b"c clockDef a sampled b", HEADER.as_bytes());
     assert_eq!((report.verdict, report.steps), (ACCEPTED, 0));
     assert_eq!(report.configuration, words(&[2]));
+}
+
+#[test]
+fn m_100_reading_1_each_value_before_an_id_is_a_tick() {
+    let table = b"a precedes b\nc clockDef await 3 a";
+    for value in VALUES {
+        let alone = format!("{HEADER}#1 #2 {value}!");
+        let expected = violated(1, 2, 1);
+        assert_eq!(verdict("a isSubClockOf b", alone), expected, "{value}");
+        let with_b = format!("#1 {value}! 1\"");
+        assert_eq!(body(&with_b), violated(1, 1, 0), "{value}");
+        let recording = format!("{HEADER}#1 {value}! #2 #3 {value}! #4 {value}\"");
+        let report = run(table, recording.as_bytes());
+        assert_eq!((report.verdict, report.steps), (ACCEPTED, 4), "{value}");
+        assert_eq!(report.configuration, words(&[1, 1]), "{value}");
+    }
+}
+
+#[test]
+fn m_100_reading_1_all_that_follows_the_first_byte_is_the_id() {
+    let header =
+        format!("$var event 1 x a $end $var event 1 0 b $end $var event 1 # c $end {END} ");
+    let ask = |words: &str| verdict(TABLE, format!("{header}{words}"));
+    assert_eq!(ask("#1 xx #2 00 #3 x# #4 00 x#"), (ACCEPTED, 4));
+    assert_eq!(ask("#1 xx 00"), violated(1, 1, 0));
+    assert_eq!(ask("#1 xx x#"), violated(2, 1, 0));
+    assert_eq!(ask("#1 xx 0x"), refused_run(44, header.len() + 6, 0));
+    assert_eq!(ask("#1 xxx"), refused_run(43, header.len() + 3, 0));
+    assert_eq!(ask("#1 x"), refused_run(40, header.len() + 3, 0));
+    let chain = b"a precedes b\nb precedes c";
+    let recording = format!("{header}#1 xx #2 xx #3 xx #4 00 #5 00 #6 x#");
+    let report = run(chain, recording.as_bytes());
+    assert_eq!((report.verdict, report.steps), (ACCEPTED, 6));
+    assert_eq!(report.configuration, words(&[1, 1]));
+}
+
+#[test]
+fn m_100_reading_1_any_value_before_an_id_that_looks_like_values() {
+    for id in ["0", "1", "x", "X", "z", "Z", "01", "xXzZ"] {
+        let header = HEADER.replace('!', id);
+        for value in VALUES {
+            let both = format!("{header}#1 {value}{id} 1\"");
+            assert_eq!(verdict(TABLE, both), violated(1, 1, 0), "{value}{id}");
+        }
+    }
+    let header = HEADER.replace('!', "xXzZ");
+    let short = format!("{header}#1 xXzZ");
+    let expected = refused_run(43, header.len() + 3, 0);
+    assert_eq!(verdict(TABLE, short), expected);
+}
+
+#[test]
+fn m_100_reading_2_a_value_with_no_id_stays_40() {
+    for value in VALUES {
+        assert_eq!(body(value), refused_run(40, 0, 0), "{value}");
+        let spaced = format!("#1 {value} !");
+        assert_eq!(body(&spaced), refused_run(40, 3, 0), "{value}");
+        let last = format!("#0 #1 1! 1\" {value}");
+        assert_eq!(body(&last), refused_run(40, 12, 1), "{value}");
+    }
+}
+
+#[test]
+fn m_100_reading_3_any_other_byte_before_an_id_stays_40() {
+    for byte in 33..=126u8 {
+        let expected = match byte {
+            48 | 49 | 120 | 88 | 122 | 90 => (ACCEPTED, 1),
+            b'#' => refused_run(40, 3, 1),
+            _ => refused_run(40, 3, 0),
+        };
+        let word = format!("{}!", byte as char);
+        assert_eq!(body(&format!("#1 {word}")), expected, "{word}");
+    }
+}
+
+#[test]
+fn m_100_reading_4_no_word_says_no_tick_any_more() {
+    assert_eq!(body("#1 1! 0! 1!"), refused_run(44, 6, 0));
+    assert_eq!(body("#1 1! 0! 1\""), refused_run(44, 6, 0));
+    assert_eq!(body("#1 0! 0! 0! 1! #2 1!"), refused_run(44, 6, 0));
+    assert_eq!(body("#1 0! #2 0! #3 1!"), (ACCEPTED, 3));
+}
+
+#[test]
+fn m_100_reading_4_one_value_twice_in_a_step_is_44_at_the_second_word() {
+    for value in VALUES {
+        let twice = format!("#1 {value}! {value}!");
+        assert_eq!(body(&twice), refused_run(44, 6, 0), "{value}");
+        let later = format!("#1 {value}! #2 {value}! {value}!");
+        assert_eq!(body(&later), refused_run(44, 12, 1), "{value}");
+        let between = format!("#1 {value}% {value}\" {value}%");
+        assert_eq!(body(&between), refused_run(44, 9, 0), "{value}");
+    }
+}
+
+#[test]
+fn m_100_reading_4_two_different_values_in_a_step_are_44_at_the_second_word() {
+    for first in VALUES {
+        for second in VALUES.into_iter().filter(|&second| second != first) {
+            let step = format!("#1 {first}! {second}! #2");
+            assert_eq!(body(&step), refused_run(44, 6, 0), "{step}");
+            let steps = format!("#1 {first}! #2 {second}!");
+            assert_eq!(body(&steps), (ACCEPTED, 2), "{steps}");
+            let clocks = format!("#1 {first}\" {second}%");
+            assert_eq!(body(&clocks), (ACCEPTED, 1), "{clocks}");
+        }
+    }
+}
+
+#[test]
+fn m_100_reading_5_an_ignored_variable_may_tick_any_number_of_times_with_any_values() {
+    let header = format!("$var event 1 ? x $end {HEADER}");
+    for value in VALUES {
+        let recording = format!("{header}#1 {value}? {value}? {value}? 1! #2 {value}?");
+        assert_eq!(verdict(TABLE, recording), (ACCEPTED, 2), "{value}");
+    }
+    let all = "0? 1? x? X? z? Z?";
+    let recording = format!("{header}#1 {all} {all} x! #2 {all}");
+    assert_eq!(verdict(TABLE, recording), (ACCEPTED, 2));
+    let recording = format!("{header}#1 {all} x! {all} Z!");
+    let place = recording.len() - 2;
+    assert_eq!(verdict(TABLE, recording), refused_run(44, place, 0));
+}
+
+#[test]
+fn m_100_reading_6_40_42_43_and_44_keep_their_order() {
+    for value in VALUES {
+        assert_eq!(body(value), refused_run(40, 0, 0), "{value}");
+        let known = format!("{value}! #1");
+        assert_eq!(body(&known), refused_run(42, 0, 0), "{value}");
+        let unknown = format!("{value}? #1");
+        assert_eq!(body(&unknown), refused_run(42, 0, 0), "{value}");
+        let undeclared = format!("#1 {value}? {value}?");
+        assert_eq!(body(&undeclared), refused_run(43, 3, 0), "{value}");
+        let longer = format!("#1 {value}! {value}!!");
+        assert_eq!(body(&longer), refused_run(43, 6, 0), "{value}");
+        let over = format!("#1 {value}abcde");
+        assert_eq!(body(&over), refused_run(43, 3, 0), "{value}");
+        let second = format!("#0 #1 1! 1\" {value}!");
+        assert_eq!(body(&second), refused_run(44, 12, 1), "{value}");
+    }
 }
 
 #[test]

@@ -89,6 +89,9 @@ pub fn table(text: impl AsRef<[u8]>) -> Table {
 pub const HEADER: &str =
     "$var event 1 ! a $end $var event 1 \" b $end $var event 1 % c $end $enddefinitions $end ";
 
+/// "Each of 0, 1, x, X, z, Z before an id is now a tick" (M-100).
+pub const VALUES: [&str; 6] = ["0", "1", "x", "X", "z", "Z"];
+
 /// The verdict and the steps of a run.
 pub fn verdict(table: &str, recording: impl AsRef<[u8]>) -> (Verdict, u64) {
     let report = run(table.as_bytes(), recording.as_ref());
