@@ -1,5 +1,5 @@
 -- A word of the body by its first byte, and the body unfolded by one word. Assumes nothing.
-use mathlib.Core.Path.{_≡_, refl, sym, ap, _∙_}
+use mathlib.Core.Path.{_≡_, refl, _∙_}
 use mathlib.Core.Bool.{true, false, false≢true, not}
 use mathlib.Core.List.{List, [], _∷_}
 use Prim.Native.Nat.{ℕ, _-_, _≤_, _<_}
@@ -9,13 +9,12 @@ use lib.ListN.{length, take, drop, getD}
 use lib.Seq.{take-all}
 use Rattle.limit.specs.declared.Limit.the-variants.{BodyWord}
 use Rattle.limit.specs.declared.Refusal.{Refusal}
-use Rattle.limit.proofs.CheckLaws.{refuses, allows}
 use Rattle.text.specs.Digits.{number}
 use Rattle.text.specs.Split.{bytesOf}
 use Rattle.text.specs.declared.Span.{Span}
 use Rattle.recording.specs.Answers.{turnAs}
 use Rattle.recording.specs.Body.{opensMark, isValue, markTurn, variableTurn, changeTurn, wordTurn, ended, refusedAt, endsWith, closing, onward, bodySteps}
-use Rattle.limit.specs.Checked.{Checked, stopped}
+use Rattle.limit.specs.Checked.{stopped, refuseIf}
 use Rattle.recording.specs.Variables.{Variable}
 use Rattle.recording.specs.declared.Step.{Step}
 use Rattle.recording.specs.declared.Turn.{Turn}
@@ -48,7 +47,6 @@ no-digits o at [] e = refl
 no-digits o at (b ∷ bs) e = absurd (omega arith)
 
 module _ (vs : List Variable) (o : Step) (at : ℕ) (w : List ℕ) where
-  -- with no id, or with no value in front of it, it is no change
   pub change-short : length w < 2 → changeTurn vs o at w ≡ stopped BodyWord at
   unfolding changeTurn
   change-short h = go w h
@@ -58,24 +56,15 @@ module _ (vs : List Variable) (o : Step) (at : ℕ) (w : List ℕ) where
       go (b ∷ []) h = refl
       go (b ∷ i ∷ is) h = absurd (omega arith)
 
-  module _ (h : 2 ≤ length w) where
-    pub change-other : not (isValue (getD w 0 0)) ≡ true → changeTurn vs o at w ≡ stopped BodyWord at
-    unfolding changeTurn
-    change-other e = go w h e
-      where
-        go : (w : List ℕ) → 2 ≤ length w → not (isValue (getD w 0 0)) ≡ true → changeTurn vs o at w ≡ stopped BodyWord at
-        go [] h e = absurd (omega arith)
-        go (b ∷ []) h e = absurd (omega arith)
-        go (b ∷ i ∷ is) h e = refuses _ _ _ _ e
-
-    pub change-value : not (isValue (getD w 0 0)) ≡ false → changeTurn vs o at w ≡ variableTurn vs o at (tail w)
-    unfolding changeTurn
-    change-value e = go w h e ∙ ap (variableTurn vs o at) (sym (behind w))
-      where
-        go : (w : List ℕ) → 2 ≤ length w → not (isValue (getD w 0 0)) ≡ false → changeTurn vs o at w ≡ variableTurn vs o at (drop 1 w)
-        go [] h e = absurd (omega arith)
-        go (b ∷ []) h e = absurd (omega arith)
-        go (b ∷ i ∷ is) h e = allows _ _ _ _ e
+  -- a first byte, and an id behind it
+  pub change-id : 2 ≤ length w → changeTurn vs o at w ≡ refuseIf (not (isValue (getD w 0 0))) BodyWord at (variableTurn vs o at (tail w))
+  unfolding changeTurn
+  change-id h = go w h ∙ rw (behind w)
+    where
+      go : (w : List ℕ) → 2 ≤ length w → changeTurn vs o at w ≡ refuseIf (not (isValue (getD w 0 0))) BodyWord at (variableTurn vs o at (drop 1 w))
+      go [] h = absurd (omega arith)
+      go (b ∷ []) h = absurd (omega arith)
+      go (b ∷ i ∷ is) h = refl
 
 -- ---- the body, by one word
 module _ (vs : List Variable) (r : List ℕ) (o : Step) (ws : List Span) where
