@@ -1,9 +1,10 @@
--- The body: document 01, "Recording" and the rows 40 to 44 of "Where each refusal is checked". Reading alone, with nothing judged, gives the
--- steps that were closed, each by a word that opens with `#` or by the end, and how reading ended. Assumes nothing.
+-- The body: document 01, "Recording" and the rows 40 to 44 of "Where each refusal is checked", with the values of document 02, M-100. Reading
+-- alone, with nothing judged, gives the steps that were closed, each by a word that opens with `#` or by the end, and how reading ended.
+-- Assumes nothing.
 use mathlib.Core.Path.{_≡_, refl}
 use mathlib.Core.Bool.{Bool, true, false, not, cond, _&&_, _||_}
-use mathlib.Core.List.{List, [], _∷_, map}
-use Prim.Native.Nat.{ℕ}
+use mathlib.Core.List.{List, [], _∷_}
+use Prim.Native.Nat.{ℕ, zero, suc, _+_}
 use lib.Dec.{eqb, leb}
 use lib.ListN.{drop}
 use Rattle.limit.specs.declared.Limit.{Limit}
@@ -121,11 +122,17 @@ no-id : wordTurn bang (begin 0 7) 3 (ascii "x") ≡ stopped BodyWord 3
 unfolding wordTurn changeTurn
 no-id = refl
 
-values : map isValue (ascii "01xXzZ") ≡ true ∷ true ∷ true ∷ true ∷ true ∷ true ∷ []
-values = refl
+-- of n bytes from b on, those that are values: of 33 to 126, six
+abbrev keep : Bool → ℕ → List ℕ → List ℕ
+keep true b l = b ∷ l
+keep false b l = l
 
-no-values : map isValue (ascii "2bBrRu-!") ≡ false ∷ false ∷ false ∷ false ∷ false ∷ false ∷ false ∷ false ∷ []
-no-values = refl
+abbrev valuesFrom : (b n : ℕ) → List ℕ
+valuesFrom b zero = []
+valuesFrom b (suc n) = keep (isValue b) b (valuesFrom (b + 1) n)
+
+six-values : valuesFrom 33 94 ≡ ascii "01XZxz"
+six-values = refl
 
 equal-time : wordTurn bang (begin 0 7) 3 (ascii "#07") ≡ stopped MarkTime 3
 unfolding wordTurn number value allBytes

@@ -1,5 +1,5 @@
 // Runs each recording that an argument names against the table that the argument before it names, and prints the recording's name and the
-// three lines of the report. What document 01 says of each stands in `stdout`.
+// three lines of the report. What documents 01 and 02 say of each stands in `stdout`.
 
 use text::Span;
 

@@ -1,5 +1,5 @@
 -- The claim: a recording that may be written is read as the steps that it was written from, with these ticks and times, and ends with the
--- end. r is read with a table of n clocks, and named gives the number of the clock with a name. Assumes nothing.
+-- end. It is read with a table of n clocks, and named gives the number of the clock with a name. Assumes nothing.
 use mathlib.Core.Path.{_≡_, refl}
 use mathlib.Core.Bool.{Bool, true, cond, _&&_}
 use mathlib.Core.List.{List, [], _∷_, map}

@@ -46,6 +46,7 @@ definitionsEnd = line (ascii "$enddefinitions") (ascii "$end" ∷ [])
 abbrev pub mark : (time : ℕ) → List ℕ
 mark t = line (35 ∷ digits t) []
 
+-- a tick: its value, then the id
 abbrev pub tick : (value : ℕ) (id : List ℕ) → List ℕ
 tick b i = line (b ∷ i) []
 

@@ -1,5 +1,5 @@
 //! Randomised comparison of two monitors: the proved library, and one that was written separately
-//! from document 01.
+//! from documents 01 and 02.
 //!
 //! A pair is one question asked of both, with every part of both answers compared. Pair `n` of a
 //! seed is always the same question.

@@ -20,7 +20,7 @@ pub struct Filtered {
 /// The commands whose blocks hold values that were dumped, and no change.
 const DUMPS: [&[u8]; 4] = [b"$dumpvars", b"$dumpall", b"$dumpon", DUMP_OFF];
 
-/// Its block has an `x` for every variable, and says that nothing more is recorded.
+/// It says that nothing more is recorded. By IEEE 1364 its block has an `x` for every variable.
 const DUMP_OFF: &[u8] = b"$dumpoff";
 
 /// What the checker takes for a value of an event.

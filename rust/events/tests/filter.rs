@@ -167,7 +167,8 @@ fn first_ticks_that_a_dump_hides_are_told() {
     );
     assert_eq!(hidden("#0 1! #5 $dumpall 1! 1\" $end 1!"), None);
     assert_eq!(hidden("#0 $dumpvars 1& b1 ' $end #5 1!"), None);
-    assert_eq!(hidden("#0 $dumpoff x! $end #1 $dumpon & $end"), None);
+    assert_eq!(hidden("#0 $dumpoff x! $end #1 $dumpon 1& $end"), None);
+    assert_eq!(hidden("#0 $dumpoff 1! $end #1 1!"), None);
     for value in ["0", "1", "x", "X", "z", "Z"] {
         let dumped = format!("#0 $dumpvars {value}! $end #5 1!");
         assert_eq!(hidden(&dumped).as_deref(), Some("0"), "{dumped}");

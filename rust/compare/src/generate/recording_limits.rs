@@ -238,8 +238,8 @@ fn undeclared_id(random: &mut Random, _: &Table, recording: &mut Recording) {
     insert(random, recording, change(value, &id));
 }
 
-/// 44 and its other side: a tick again in the same step, with any value, behind other words or
-/// not; or a tick of an ignored variable.
+/// 44 and its other side: a tick again, with any value, in the same step or behind the next mark;
+/// or a tick of an ignored variable.
 fn second_tick(random: &mut Random, _: &Table, recording: &mut Recording) {
     let ticks: Vec<usize> = (0..recording.body.len())
         .filter(|place| !recording.body[*place].starts_with(b"#"))

@@ -241,7 +241,7 @@ fn body(random: &mut Random, table: &Table, plan: Plan, recording: &mut Recordin
         }
     }
     if plan.violated {
-        violation(random, table, &words, &mut times, recording);
+        violation(random, table, &words, &mut times, recording, plain);
     }
 }
 
@@ -252,6 +252,7 @@ fn violation(
     words: &[i64],
     times: &mut Times,
     recording: &mut Recording,
+    plain: bool,
 ) {
     let Some(set) = ticks::failing(random, &table.records, words, table.names.len() as u32) else {
         return;
@@ -259,7 +260,7 @@ fn violation(
     let Some(time) = times.take(random) else {
         return;
     };
-    let failing = step_words(random, time, set, recording, true);
+    let failing = step_words(random, time, set, recording, plain);
     recording.body.extend(failing);
     if random.once_in(2) {
         let words = "# #0 #18446744073709551615 #x #99999999999999999999 ##";
@@ -272,8 +273,8 @@ pub fn value(random: &mut Random) -> u8 {
     random.pick(b"01xXzZ")
 }
 
-/// The words of one step: its mark, its ticks in any order, and ticks of ignored variables between
-/// them, unless it is to be plain.
+/// The words of one step: its mark, its ticks in any order and with any values, and ticks of ignored
+/// variables between them; in order, with the value `1` and alone, if it is to be plain.
 fn step_words(
     random: &mut Random,
     time: u64,
