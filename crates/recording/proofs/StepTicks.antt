@@ -180,11 +180,7 @@ module _ (n : ℕ) (room : n ≤ 32) where
   mark-ticking : (o : Step) (at : ℕ) (d : Number) → Each Ticking (markTurn o at d)
   mark-ticking o at NotDigits = tt
   mark-ticking o at TooLarge = tt
-  mark-ticking o at (Value t) = go (o .begun && leb t (o .time .0))
-    where
-      go : (x : Bool) → Each Ticking (refuseIf x MarkTime at (passed (begin at t)))
-      go true = tt
-      go false = zero-below
+  mark-ticking o at (Value t) = unless-broken Ticking (o .begun && leb t (o .time .0)) MarkTime at (passed (begin at t)) zero-below
 
   abbrev AllTicking : List Step → Type 0
   AllTicking [] = Unit {0}

@@ -83,26 +83,19 @@ pub fn read_mark(recording: &[u8], step: Step, word: Span) -> Turn
     }
 }
 
-// A tick of a clock.
-fn tick(step: Step, at: usize, clock: u8) -> Turn
-    ensures { λ r. ⌜ a.turnAs r ≡ b.foundTurn step at (Found.At clock) ⌝ }
+// A tick of the variable that was found.
+fn tick(step: Step, at: usize, variable: Found) -> Turn
+    ensures { λ r. ⌜ a.turnAs r ≡ b.foundTurn step at variable ⌝ }
 {
+    let Found::At(clock) = variable else {
+        return stopped(Limit::IdUndeclared, at);
+    };
     if constraint::ticks(step.ticks, clock) {
         return stopped(Limit::TickTwice, at);
     }
     let mut more = step;
     more.ticks = constraint::with_tick(step.ticks, clock);
     Turn::Passed(more)
-}
-
-// A tick of the variable that was found.
-fn found(step: Step, at: usize, variable: Found) -> Turn
-    ensures { λ r. ⌜ a.turnAs r ≡ b.foundTurn step at variable ⌝ }
-{
-    let Found::At(clock) = variable else {
-        return stopped(Limit::IdUndeclared, at);
-    };
-    tick(step, at, clock)
 }
 
 // Whether a byte is the value of a change.
@@ -128,7 +121,7 @@ fn variable<'a>(
     if !step.begun {
         return stopped(Limit::ChangeBeforeMark, at);
     }
-    found(step, at, find_id(ids, clocks, count, starts, id))
+    tick(step, at, find_id(ids, clocks, count, starts, id))
 }
 
 // A word that opens no mark.

@@ -7,7 +7,7 @@ use Rattle.recording.proofs.body.variable.Statement.{statement}
 use Rattle.recording.proofs.body.variable.Tie as tie
 
 returns-2 : tie.Need-returns-2
-returns-2 c = c .found .ensures ∙ ap (foundTurn _ _) (c .before .find-id .ensures) ∙ sym (allows _ _ _ _ (c .before .before .if1 .left))
+returns-2 c = c .tick .ensures ∙ ap (foundTurn _ _) (c .before .find-id .ensures) ∙ sym (allows _ _ _ _ (c .before .before .if1 .left))
 
 pub variable-spec : {M : Type 1} → statement M
 variable-spec =
