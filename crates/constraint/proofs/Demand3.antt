@@ -2,19 +2,19 @@
 -- from its two words; where they differ, some record tells them apart. Assumes nothing.
 use mathlib.Core.Path.{_≡_, refl, sym, ap, ap₂, _∙_}
 use mathlib.Core.Logic.{_≢_, _↔_}
-use mathlib.Core.Bool.{Bool, true, false, cond, true≢false, false≢true}
+use mathlib.Core.Bool.{Bool, true, false, not, cond, _&&_, true≢false, false≢true}
 use mathlib.Core.List.{List, [], _∷_}
 use Prim.Native.Nat.{ℕ, suc, _+_, _≤_, suc-le-suc}
 use native.Mathlib.Omega.{arith}
-use borrow.Author.Tests.{leb-true}
+use borrow.Author.Tests.{leb-true, not-true}
 use lib.Dec.{leb}
 use lib.ListN.{length}
 use Rattle.limit.specs.Limit.{numberOf}
 use Rattle.limit.proofs.Numbers.{refusals-differ}
-use Rattle.constraint.specs.Lists.{at, empty, recordFits, firstUnfit, countsFit, brokenRecord, firstOut}
-use Rattle.constraint.specs.Meaning.{definedOf, wellFormed, inRange}
+use Rattle.constraint.specs.Lists.{at, empty, allKnown, recordFits, firstUnfit, countsFit, brokenRecord, firstOut}
+use Rattle.constraint.specs.Meaning.{definedOf, usedOf, wellFormed, inRange}
 use Rattle.constraint.specs.SamePlace.{Answer, AnswerDetermines, same, different, samePlaceOf, sameWord, sameWords, accepts, AllAlike, SomeApart, recordAt, wordAt, SamePlaceMeant, Answered}
-use Rattle.constraint.specs.Ticks.{Ticks, none, addingAll}
+use Rattle.constraint.specs.Ticks.{Ticks, none, any, addingAll}
 use Rattle.constraint.specs.declared.Broken.{Broken}
 use Rattle.constraint.specs.declared.Broken.the-variants.{Nowhere}
 use Rattle.constraint.specs.declared.Clocks.{Clocks}
@@ -32,7 +32,10 @@ nowhere true x i e = (refl, e)
 nowhere false x i e = let z : _≡_ {A = ℕ} 0 1 = cc in absurd (omega arith)
 
 pub clocks-pass : (clocks : Clocks) (rs : List Constraint) → brokenRecord clocks rs ≡ Nowhere → (clocks .count ≤ 32) × (firstUnfit clocks none 1 rs ≡ Nowhere)
-clocks-pass clocks rs e = let p = nowhere (countsFit clocks) _ 0 e in (leb-true (clocks .count) 32 (p .0), p .1)
+clocks-pass clocks rs e = let p = nowhere (countsFit clocks) _ 0 e in (leb-true (clocks .count) 32 (and-l _ _ (p .0)), p .1)
+
+pub named-pass : (clocks : Clocks) (rs : List Constraint) → brokenRecord clocks rs ≡ Nowhere → clocks .named ≤ clocks .count
+named-pass clocks rs e = leb-true _ _ (and-r (leb (clocks .count) 32) _ (nowhere (countsFit clocks) _ 0 e .0))
 
 -- of the first record, and of those after it
 module _ (clocks : Clocks) (earlier : Ticks) (i : ℕ) (r : Constraint) (rs : List Constraint) (e : firstUnfit clocks earlier i (r ∷ rs) ≡ Nowhere) where
@@ -44,6 +47,15 @@ module _ (clocks : Clocks) (earlier : Ticks) (i : ℕ) (r : Constraint) (rs : Li
 
   pub record-passes : wellFormed (clocks .count) r ≡ true
   record-passes = and-l _ _ (and-r (leb i 64) _ fits)
+
+  rest-passes : (not (any earlier (definedOf r)) && allKnown (clocks .named) earlier (usedOf r)) ≡ true
+  rest-passes = and-r (wellFormed (clocks .count) r) _ (and-r (leb i 64) _ fits)
+
+  pub once-passes : any earlier (definedOf r) ≡ false
+  once-passes = not-true _ (and-l _ _ rest-passes)
+
+  pub used-passes : allKnown (clocks .named) earlier (usedOf r) ≡ true
+  used-passes = and-r (not (any earlier (definedOf r))) _ rest-passes
 
   pub later-pass : firstUnfit clocks (addingAll (definedOf r) earlier) (suc i) rs ≡ Nowhere
   later-pass = nowhere (recordFits clocks earlier i r) _ i e .1

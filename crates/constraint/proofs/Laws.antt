@@ -26,7 +26,7 @@ use Rattle.constraint.proofs.Booleans.{and-l, and-r}
 
 -- ---- the empty tick set holds in every form and moves no word
 
-due-none : (k : Definition) (w : Word) → due k w false false ≡ false
+pub due-none : (k : Definition) (w : Word) → due k w false false ≡ false
 due-none Union w = refl
 due-none Inter w = refl
 due-none Lub w = simp and-false

@@ -1,6 +1,7 @@
 pub mod Booleans
 pub mod Demand3
 pub mod Edges
+pub mod ImplicitLaws
 pub mod Laws
 pub mod Letters
 pub mod LookLaws

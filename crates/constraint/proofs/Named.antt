@@ -85,6 +85,9 @@ due-named : {k : Definition} → Arity k → (w : Word) (a b x y : Bool) → ope
 due-named (two f g) w a b x y e = let t : a ∷ b ∷ [] ≡ x ∷ y ∷ [] = sym (f Bool a b) ∙ e ∙ f Bool x y in cc
 due-named one w a b x y e = cc
 
+pub due-looks : (k : Definition) (w : Word) (F G : Ticks) (a b : ℕ) → map F (operands k a b) ≡ map G (operands k a b) → due k w (F a) (F b) ≡ due k w (G a) (G b)
+due-looks k w F G a b e = due-named (arity k) w _ _ _ _ (sym (map-operands F (arity k) a b) ∙ e ∙ map-operands G (arity k) a b)
+
 pub holds-named : (k : Kind) (w : Word) (a b c x y z : Bool) → named k a b c ≡ named k x y z → holdsWhen k w a b c ≡ holdsWhen k w x y z
 holds-named Empty w a b c x y z e = refl
 holds-named (Relates k) w a b c x y z e = cc

@@ -5,7 +5,8 @@ use Prim.Native.Nat.{ℕ, _<_}
 use lib.Dec.{leb}
 use lib.IntN.{natAbs}
 use lib.Signed.{mag}
-use Rattle.constraint.specs.Meaning.{change, moved, counterRange, fits, inRange, holds, nextWord, wellFormed, definedOf}
+use Rattle.constraint.specs.Lists.{allKnown}
+use Rattle.constraint.specs.Meaning.{change, moved, counterRange, fits, inRange, holds, nextWord, wellFormed, definedOf, usedOf}
 use Rattle.constraint.specs.Million.{withinMillion, inMillion}
 use Rattle.constraint.specs.Ticks.{Ticks, any, bits, withTicks}
 use Rattle.constraint.specs.declared.Clocks.{Clocks}
@@ -44,4 +45,8 @@ pub record Narrow (s : Range) : Type 0 where
 
 -- limit 59 of a record, but for the number of records; earlier has the clocks that those before it define
 abbrev pub fitted : Clocks → (earlier : ℕ) → Constraint → Fitted
-fitted clocks earlier r = record { fits = wellFormed (clocks .count) r && not (any (bits earlier) (definedOf r)); defined = withTicks earlier (definedOf r) }
+fitted clocks earlier r =
+    record {
+      fits = wellFormed (clocks .count) r && (not (any (bits earlier) (definedOf r)) && allKnown (clocks .named) (bits earlier) (usedOf r));
+      defined = withTicks earlier (definedOf r);
+    }

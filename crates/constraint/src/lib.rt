@@ -1,10 +1,12 @@
 // One constraint of a table: its record and its word, and what a step means for it. Lists of records: which of them are let pass, and which
 // configurations are. The same-place question, of which this crate has the definition and what its answer means.
 
+mod implicit;
 mod place;
 mod rule;
 mod tick_set;
 
+pub use implicit::with_implied;
 use limit::Place;
 use limit::Refusal;
 pub use place::broken_record;
@@ -67,8 +69,9 @@ pub struct Constraint {
     pub line: Place,
 }
 
-// How many clocks there are: of the records of a table.
+// How many clocks of the records are named, which have the lowest numbers, and how many clocks there are, with the implicit ones behind them.
 pub struct Clocks {
+    pub named: u8,
     pub count: u8,
 }
 
@@ -116,7 +119,7 @@ pub enum Seen {
     Moves(Word),
 }
 
-// Whether a record fits the clock count and the records before it, and the clocks that it or they define.
+// Whether a record fits the clock counts and the records before it, and the clocks that it or they define.
 pub struct Fitted {
     pub fits: bool,
     pub defined: u32,

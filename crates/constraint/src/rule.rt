@@ -1,5 +1,6 @@
 // What one constraint means: document 01, "Table text". Each function is equal to the definition of its name in specs/Meaning.
 use super::Change;
+use super::Clocks;
 use super::Constraint;
 use super::Counter;
 use super::Definition;
@@ -12,12 +13,14 @@ use super::Word;
 use super::tick_set::ticks;
 use limit::Place;
 ghost use mathlib.Core.Path.{_≡_};
-ghost use mathlib.Core.Bool.{true, cond, _&&_};
+ghost use mathlib.Core.Bool.{true, cond, _&&_, _||_};
 ghost use mathlib.Core.List.{_∷_, []};
 ghost use Prim.Native.Nat.{_<_};
+ghost use lib.Dec.{ltb};
 ghost use lib.IntN.{natAbs};
 ghost use lib.Signed.{mag};
 ghost use Rattle.constraint.specs.Ticks.{bits};
+ghost use Rattle.constraint.specs.Lists.{allKnown};
 ghost use Rattle.constraint.specs.Look as l;
 ghost use Rattle.constraint.specs.Meaning as m;
 
@@ -67,7 +70,7 @@ fn relates(k: Relation, w: Word, a: bool, b: bool) -> bool
 }
 
 // Whether the clock that a definition defines is due to tick in a step in which a and b tick or not.
-fn due(k: Definition, w: Word, a: bool, b: bool) -> bool
+pub fn due(k: Definition, w: Word, a: bool, b: bool) -> bool
     ensures { λ r. ⌜ r ≡ m.due k w a b ⌝ }
 {
     match k {
@@ -374,12 +377,36 @@ fn number_fits(n: Parameter) -> bool
     (1 <= n.0) & (n.0 <= 1000000)
 }
 
-// The clocks of a definition, c, which it defines, and its operands, and its number.
-pub fn definition_fits(k: Definition, clocks: u8, a: u8, b: u8, c: u8, n: Parameter) -> bool
-    ensures { λ r. ⌜ r ≡ (m.clocksFit clocks (c ∷ m.operands k a b) && m.parameterFits (m.definitionCounter k) n) ⌝ }
+// Whether a clock is a named one, or one of those that earlier records define.
+fn known(named: u8, earlier: u32, i: u8) -> bool
+    ensures { λ r. ⌜ r ≡ (ltb i named || bits earlier i) ⌝ }
+{
+    if i < named { true } else { ticks(earlier, i) }
+}
+
+// Whether two clocks are.
+pub fn both_known(named: u8, earlier: u32, x: u8, y: u8) -> bool
+    ensures { λ r. ⌜ r ≡ allKnown named (bits earlier) (x ∷ y ∷ []) ⌝ }
+{
+    known(named, earlier, x) & known(named, earlier, y)
+}
+
+// The clocks of a definition, c, which it defines, and its operands, and its number; and that its operands are known.
+pub fn definition_fits(
+    k: Definition,
+    clocks: Clocks,
+    earlier: u32,
+    a: u8,
+    b: u8,
+    c: u8,
+    n: Parameter,
+) -> bool
+    ensures { λ r. ⌜ r ≡ ((m.clocksFit (clocks .count) (c ∷ m.operands k a b) && m.parameterFits (m.definitionCounter k) n) && allKnown (clocks .named) (bits earlier) (m.operands k a b)) ⌝ }
 {
     match k {
-        Definition::Await => pair_fits(clocks, c, a) & number_fits(n),
-        _ => triple_fits(clocks, c, a, b),
+        Definition::Await => {
+            pair_fits(clocks.count, c, a) & number_fits(n) & known(clocks.named, earlier, a)
+        }
+        _ => triple_fits(clocks.count, c, a, b) & both_known(clocks.named, earlier, a, b),
     }
 }

@@ -5,8 +5,8 @@ use Rattle.constraint.proofs.place.fit.Tie as tie
 
 returns-2 : tie.Need-returns-2
 returns-2 c =
-    let s = c .before .before .before .args in
-    fits-relation (s .clocks) (s .earlier) (s .constraint) (c .before .enum-told2 .given .1) (c .pair-fits .ensures)
+    let s = c .before .before .before .before .args in
+    fits-relation (s .clocks) (s .earlier) (s .constraint) (c .before .before .enum-told2 .given .1) (c .before .pair-fits .ensures) (c .both-known .ensures)
 
 returns-3 : tie.Need-returns-3
 returns-3 c =
@@ -20,6 +20,7 @@ fit-spec =
     (tie.spec
     (λ c. c .match .keys1)
     (λ c. c .match .keys2)
+    (λ c κs. tt)
     (λ c κs. tt)
     (λ c. c .match .keys3)
     (λ c κs. tt)
