@@ -1,4 +1,4 @@
--- A turn of the loop over the records of a step, what each outcome of `judged` is, and what every step leaves: the words in range, and how many
+-- A turn of the loops over the records of a step, what each outcome of `judged` is, and what every step leaves: the words in range, and how many
 -- there are. Assumes nothing.
 use mathlib.Core.Path.{_≡_, refl, sym, ap, _∙_}
 use mathlib.Core.Bool.{true, false, cond}
@@ -11,11 +11,12 @@ use types.Run.{OneOf}
 use lib.ListN.{length, take, drop, getD, set, length-set, take-append-drop}
 use lib.Seq.{drop-cons, drop-set-lt, take-suc-set, append-snoc}
 use Rattle.limit.specs.declared.Place.{Place}
+use Rattle.constraint.specs.Implicit.{impliedOf, completed}
 use Rattle.constraint.specs.Lists.{at, empty, slots, firstOut, brokenWord}
 use Rattle.constraint.specs.Look.{looked}
 use Rattle.constraint.specs.Meaning.{holds, nextWord, inRange}
 use Rattle.constraint.specs.Million.{inMillion, firstPast}
-use Rattle.constraint.specs.Ticks.{Ticks, none}
+use Rattle.constraint.specs.Ticks.{Ticks, none, bits, withTicks}
 use Rattle.constraint.specs.declared.Broken.{Broken}
 use Rattle.constraint.specs.declared.Broken.the-variants.{Nowhere, At}
 use Rattle.constraint.specs.declared.Configuration.{Configuration}
@@ -135,6 +136,18 @@ module _ (F : Ticks) (c : Configuration) (n : ℕ) (rs : List Constraint) where
       judge-stop e p q =
           let h = seen-fails (holds r w F) _ _ (rw (e, fine .0) at p) (rw (e, fine .0) at q) in
           rw (add-one i) (sym (from-fails F c i ws room r _ w word-here past h) ∙ same-here)
+
+-- ---- a turn of the loop that completes a tick set
+
+module _ (named : ℕ) (n : ℕ) (rs : List Constraint) (ws : List Word) (i f : ℕ) where
+  pub complete-done : n ≤ i → completed named (drop i (slots n rs)) (drop i ws) f ≡ f
+  complete-done h = rw (slots-done n rs i h)
+
+  pub complete-on :
+      (d : Constraint) (v : Word) → i < n → i < length rs → i < length ws
+      → completed named (drop i (slots n rs)) (drop i ws) f
+      ≡ completed named (drop (i + 1) (slots n rs)) (drop (i + 1) ws) (withTicks f (impliedOf named (getD rs i d) (getD ws i v) (bits f)))
+  complete-on d v more slot inside = rw (slots-cons n rs i more, drop-cons ws i v inside, getD-any rs i empty d slot, add-one i)
 
 -- ---- limit 60 and the million: where every record held from words in range, the moved words out of range are those past their million
 

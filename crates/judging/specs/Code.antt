@@ -3,11 +3,12 @@ use mathlib.Core.Path.{_≡_}
 use mathlib.Core.List.{List, _++_}
 use Prim.Native.Nat.{ℕ, suc, _≤_}
 use lib.ListN.{take, drop}
-use Rattle.constraint.specs.Lists.{slots, brokenWord}
+use Rattle.constraint.specs.Lists.{slots, brokenRecord, brokenWord}
 use Rattle.constraint.specs.Million.{firstPast}
 use Rattle.constraint.specs.Ticks.{Ticks}
 use Rattle.constraint.specs.declared.Broken.{Broken}
 use Rattle.constraint.specs.declared.Broken.the-variants.{Nowhere, At}
+use Rattle.constraint.specs.declared.Clocks.{Clocks}
 use Rattle.constraint.specs.declared.Configuration.{Configuration}
 use Rattle.constraint.specs.declared.Constraint.{Constraint}
 use Rattle.constraint.specs.declared.Word.{Word}
@@ -15,9 +16,10 @@ use Rattle.judging.specs.Step.{firstFailing, moved, handedBack}
 use Rattle.judging.specs.declared.Judged.{Judged}
 use Rattle.judging.specs.declared.Outcome.the-variants.{Held, Failed, PastMillion}
 
--- there is room for the records, and limit 60 lets the words pass
-pub record Ready (records : List Constraint) (count : ℕ) (words : List Word) : Type 0 where
+-- there is room for the records, and limits 59 and 60 let them and the words pass
+pub record Ready (clocks : Clocks) (records : List Constraint) (count : ℕ) (words : List Word) : Type 0 where
   pub room : count ≤ 64
+  pub fit : brokenRecord clocks (slots count records) ≡ Nowhere
   pub inside : brokenWord (slots count records) words ≡ Nowhere
 
 -- the place that is known, else another

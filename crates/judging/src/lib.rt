@@ -1,4 +1,5 @@
-// One step of all records, on values: every constraint is judged, and every word moved, with the words from before the step.
+// One step of all records, on values: the ticks of implicit clocks are worked out, every constraint is judged, and every word moved, with the words
+// from before the step.
 
 mod step;
 

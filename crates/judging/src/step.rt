@@ -2,14 +2,19 @@
 use super::Judged;
 use super::Outcome;
 use constraint::Broken;
+use constraint::Clocks;
 use constraint::Configuration;
 use constraint::Constraint;
 use constraint::Seen;
 use limit::Place;
 ghost use mathlib.Core.Path.{_≡_};
-ghost use Rattle.constraint.specs.Lists.{slots, at};
+ghost use Prim.Native.Nat.{_≤_};
+ghost use Rattle.constraint.specs.Implicit.{completed};
+ghost use Rattle.constraint.specs.Lists.{slots, at, brokenWord};
 ghost use Rattle.constraint.specs.Ticks.{bits};
+ghost use Rattle.constraint.specs.declared.Broken.the-variants.{Nowhere};
 ghost use Rattle.judging.specs.Code as k;
+ghost use Rattle.judging.specs.Single.{allTicks};
 ghost use Rattle.judging.specs.Step as s;
 
 // The place that is known, else this one.
@@ -32,6 +37,28 @@ fn handed_back(outcome: Outcome, configuration: Configuration) -> Judged
     }
 }
 
+// The tick set with the implicit clocks that tick with it: record by record, each with its word from before the step.
+fn complete(
+    named: u8,
+    records: [Constraint; 64],
+    count: usize,
+    configuration: Configuration,
+    ticks: u32,
+) -> u32
+    requires { ⌜ count ≤ 64 ⌝ }
+    ensures { λ r. ⌜ r ≡ completed named (slots count records) (configuration .words) ticks ⌝ }
+{
+    let mut all = ticks;
+    let mut i: usize = 0;
+    while i < count {
+        let constraint = records[i];
+        let w = configuration.words[i];
+        all = constraint::with_implied(named, constraint, w, all);
+        i += 1;
+    }
+    all
+}
+
 // Record by record: the first that fails ends it; the first whose word leaves its million is remembered.
 fn judge_each(
     records: [Constraint; 64],
@@ -39,7 +66,7 @@ fn judge_each(
     configuration: Configuration,
     ticks: u32,
 ) -> Judged
-    requires { ⌜ k.Ready records count (configuration .words) ⌝ }
+    requires { ⌜ (count ≤ 64) × (brokenWord (slots count records) (configuration .words) ≡ Nowhere) ⌝ }
     ensures { λ r. ⌜ r ≡ s.judged (bits ticks) (slots count records) configuration ⌝ }
 {
     let mut words = configuration.words;
@@ -68,18 +95,24 @@ fn judge_each(
     handed_back(Outcome::Held, Configuration { words })
 }
 
-// The step with a tick set, from a configuration that limit 60 lets pass. Without ticks every record holds, and no word moves.
+// The step with a tick set of named clocks, from records and a configuration that limits 59 and 60 let pass. Without ticks every record holds, and
+// no word moves; where all clocks are named, there are no ticks to work out.
 pub fn judge(
     records: [Constraint; 64],
     count: usize,
+    clocks: Clocks,
     configuration: Configuration,
     ticks: u32,
 ) -> Judged
-    requires { ⌜ k.Ready records count (configuration .words) ⌝ }
-    ensures { λ r. ⌜ r ≡ s.judged (bits ticks) (slots count records) configuration ⌝ }
+    requires { ⌜ k.Ready clocks records count (configuration .words) ⌝ }
+    ensures { λ r. ⌜ r ≡ s.judged (allTicks clocks (slots count records) (configuration .words) ticks) (slots count records) configuration ⌝ }
 {
     if ticks == 0 {
         return handed_back(Outcome::Held, configuration);
     }
-    judge_each(records, count, configuration, ticks)
+    let mut all = ticks;
+    if clocks.named != clocks.count {
+        all = complete(clocks.named, records, count, configuration, ticks);
+    }
+    judge_each(records, count, configuration, all)
 }

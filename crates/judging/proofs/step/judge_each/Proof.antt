@@ -20,14 +20,14 @@ abbrev μ-loop : tie.MeasureT-loop
 loop-holds : tie.Need-loop-holds Inv-loop μ-loop
 loop-holds c =
     let s = c .before .args in
-    (omega arith, judge-starts (bits (s .ticks)) (s .configuration) (s .count) (s .t1) (c .before .pre .inside))
+    (omega arith, judge-starts (bits (s .ticks)) (s .configuration) (s .count) (s .t1) (c .before .pre .1))
 
 -- there is a word for each record
 room : (c : tie.In-loop Inv-loop μ-loop) → c .before .loop .i < length (c .before .loop .words)
 room c =
     let s = c .before .before .before .args in
     let p : length (s .configuration .words) ≡ 64 = search (needs, length-mapped) in
-    omega (arith, c .before .loop .inv .1 .long, c .before .before .before .pre .room)
+    omega (arith, c .before .loop .inv .1 .long, c .before .before .before .pre .0)
 
 loop-again : tie.Need-loop-again Inv-loop μ-loop
 loop-again c =
