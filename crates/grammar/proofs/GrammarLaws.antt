@@ -3,7 +3,7 @@
 use mathlib.Core.Path.{_≡_, refl, sym, ap, _∙_}
 use mathlib.Core.Bool.{Bool, true, false, _&&_}
 use mathlib.Core.List.{List, [], _∷_}
-use Prim.Native.Nat.{ℕ, _-_}
+use Prim.Native.Nat.{ℕ, zero, suc, _-_, _<_}
 use native.Mathlib.Omega.{arith}
 use lib.ListN.{length}
 use Rattle.text.specs.Bytes.{sameBytes}
@@ -13,13 +13,15 @@ use Rattle.constraint.specs.declared.Definition.the-variants.{Await as AwaitKin
 use Rattle.constraint.specs.declared.Kind.{Kind}
 use Rattle.constraint.specs.declared.Kind.the-variants.{Defines}
 use Rattle.grammar.specs.Answers.{FirstWord, operandRead, formRead}
-use Rattle.grammar.specs.Grammar.{Parsed, noForm, parsed, andThen, onlyIf, Placed, Formed, Kinded, Operands, lineWords, token, clockAt, operand, kindAt, strictKind, plain, isKind, sides, second, pair, awaitNumber, awaitSide, expression, isSide, defining, atEnd, closed, lineForm}
+use Rattle.grammar.specs.Building.{defining, provisional, withImplicit}
+use Rattle.grammar.specs.Grammar.{Parsed, noForm, parsed, andThen, onlyIf, Placed, Formed, Kinded, Operands, lineWords, token, clockAt, name, kindAt, strictKind, plain, isKind, sides, second, pair, awaitNumber, awaitSide, expression, isSide, inner, operand, atEnd, closed, lineForm}
 use Rattle.grammar.specs.Tokens.{is, shapeOf, lookUp, tokenOf}
 use Rattle.grammar.specs.declared.FormRead.{FormRead}
+use Rattle.grammar.specs.declared.Inner.{Inner}
 use Rattle.grammar.specs.declared.Names.{Names}
 use Rattle.grammar.specs.declared.OperandRead.{OperandRead}
 use Rattle.grammar.specs.declared.Token.{Token}
-use Rattle.grammar.specs.declared.Token.the-variants.{End, Name, Digits, ClockDef, Await, Strictly}
+use Rattle.grammar.specs.declared.Token.the-variants.{End, Name, Digits, ClockDef, Await, Strictly, Open, Close}
 use Rattle.grammar.specs.declared.WordRead.{WordRead}
 
 -- ---- what every reading has
@@ -81,28 +83,28 @@ module _ (t : List ℕ) where
       after-second = g .next .after ∙ ap rest (f .next .after)
 
   -- ---- what answers stand for
-  module _ {S : Type 0} (s : S) where
-    pub operand-not : (r : OperandRead) → r .fits ≡ false → operandRead t s r ≡ noForm
-    operand-not r e = not-only (r .fits) _ e
+  pub operand-not : (r : OperandRead) → r .fits ≡ false → operandRead t r ≡ noForm
+  operand-not r e = not-only (r .fits) _ e
 
-    pub operand-is : (r : OperandRead) → r .fits ≡ true → operandRead t s r ≡ parsed (record { left = s; clock = r .clock }) (lineWords t (r .at))
-    operand-is r e = only (r .fits) _ e
+  pub operand-is : (r : OperandRead) → r .fits ≡ true → operandRead t r ≡ parsed (record { left = r .inner; clock = r .clock }) (lineWords t (r .at))
+  operand-is r e = only (r .fits) _ e
 
-    pub form-not : (r : FormRead) → r .fits ≡ false → formRead t s r ≡ noForm
-    form-not r e = not-only (r .fits) _ e
+  pub form-not : (r : FormRead) → r .fits ≡ false → formRead t r ≡ noForm
+  form-not r e = not-only (r .fits) _ e
 
-    pub form-is : (r : FormRead) → r .fits ≡ true → formRead t s r ≡ parsed (record { left = s; constraint = r .constraint }) (lineWords t (r .at))
-    form-is r e = only (r .fits) _ e
+  pub form-is : (r : FormRead) → r .fits ≡ true → formRead t r ≡ parsed (record { left = r .inner; constraint = r .constraint }) (lineWords t (r .at))
+  form-is r e = only (r .fits) _ e
 
-  -- ---- operands and kinds
+  -- ---- names and kinds
   module _ (ws : List Span) where
-    pub operand-none : (ns : Names) → is Name (token t ws) ≡ false → operand t ns ws ≡ noForm
-    unfolding operand
-    operand-none ns e = not-only _ _ e
+    module _ {S : Type 0} (ns : Names) (s : S) where
+      pub name-none : is Name (token t ws) ≡ false → name t ns s ws ≡ noForm
+      unfolding name
+      name-none e = not-only _ _ e
 
-    pub operand-some : (ns : Names) → is Name (token t ws) ≡ true → operand t ns ws ≡ parsed (record { left = ns; clock = clockAt t ns (front t ws) }) (rest ws)
-    unfolding operand
-    operand-some ns e = only _ _ e
+      pub name-some : is Name (token t ws) ≡ true → name t ns s ws ≡ parsed (record { left = s; clock = clockAt t ns (front t ws) }) (rest ws)
+      unfolding name
+      name-some e = only _ _ e
 
     kind-two : is Strictly (token t ws) ≡ true → kindAt t ws ≡ record { kind = strictKind (plain (token t (rest ws))); after = rest (rest ws) }
     unfolding kindAt
@@ -114,9 +116,9 @@ module _ (t : List ℕ) where
 
   -- ---- the same, of the words from an offset on
   module _ (at : ℕ) (w : WordRead) (f : FirstWord t at w) where
-    pub operand-read : (ns : Names) (k : ℕ) → is Name (w .token) ≡ true → k ≡ clockAt t ns (w .span)
-        → parsed (record { left = ns; clock = k }) (lineWords t (w .span .end)) ≡ operand t ns (lineWords t at)
-    operand-read ns k e q = rw (operand-some (lineWords t at) ns (word-token at w f Name true e), q, f .next .after, f .next .found)
+    pub name-read : {S : Type 0} (ns : Names) (s : S) (k : ℕ) → is Name (w .token) ≡ true → k ≡ clockAt t ns (w .span)
+        → parsed (record { left = s; clock = k }) (lineWords t (w .span .end)) ≡ name t ns s (lineWords t at)
+    name-read ns s k e q = rw (name-some (lineWords t at) ns s (word-token at w f Name true e), q, f .next .after, f .next .found)
 
     pub kind-read-one : (k : Kind) → is Strictly (w .token) ≡ false → k ≡ plain (w .token)
         → _≡_ {A = Kinded} (record { kind = k; after = lineWords t (w .span .end) }) (kindAt t (lineWords t at))
@@ -176,6 +178,42 @@ module _ (t : List ℕ) where
       unfolding lineForm
       line-relates e = rw e
 
+-- ---- operands by the level, and the end of one in parentheses
+module _ (t : List ℕ) (ns : Names) (n : ℕ) (s : Inner) (ws : List Span) where
+  pub operand-flat : n ≡ 0 → operand t ns n s ws ≡ name t ns s ws
+  unfolding operand
+  operand-flat e = rw e
+
+  pub operand-name : is Open (token t ws) ≡ false → operand t ns n s ws ≡ name t ns s ws
+  unfolding operand
+  operand-name e = go n
+    where
+      go : (m : ℕ) → operand t ns m s ws ≡ name t ns s ws
+      go zero = refl
+      go (suc m) = rw e
+
+  pub operand-inner : (n ≡ 0 → ⊥) → is Open (token t ws) ≡ true → operand t ns n s ws ≡ andThen (expression t (operand t ns (n - 1)) s (rest ws)) (inner t)
+  unfolding operand
+  operand-inner h e = go n h
+    where
+      go : (m : ℕ) → (m ≡ 0 → ⊥) → operand t ns m s ws ≡ andThen (expression t (operand t ns (m - 1)) s (rest ws)) (inner t)
+      go zero k = absurd (k refl)
+      go (suc m) k = let z : suc m - 1 ≡ m = omega arith in rw (e, z)
+
+module _ (t : List ℕ) (p : Parsed (Formed Inner)) where
+  pub inner-none : p ≡ noForm → andThen p (inner t) ≡ noForm
+  inner-none e = then-none p _ e
+
+  module _ (f : Formed Inner) (us : List Span) (e : p ≡ parsed f us) where
+    pub inner-open : (is Close (token t us) && isSide true (f .constraint .kind)) ≡ false → andThen p (inner t) ≡ noForm
+    unfolding inner
+    inner-open g = then-some p _ f us e ∙ not-only _ _ g
+
+    pub inner-some : (is Close (token t us) && isSide true (f .constraint .kind)) ≡ true
+        → andThen p (inner t) ≡ parsed (record { left = withImplicit (f .left) (f .constraint); clock = provisional (f .left .clocks) }) (rest us)
+    unfolding inner
+    inner-some g = then-some p _ f us e ∙ only _ _ g
+
 -- ---- the end of a line
 module _ {S : Type 0} (d : Bool) (c : ℕ) (p : Parsed (Formed S)) where
   pub closed-none : p ≡ noForm → closed d c p ≡ noForm
@@ -196,23 +234,23 @@ module _ {S : Type 0} (d : Bool) (c : ℕ) (p : Parsed (Formed S)) where
       closed-some g = then-some p _ f [] e ∙ only _ _ g
 
 -- the same of a form that was read in code
-module _ {S : Type 0} (t : List ℕ) (s : S) (d : Bool) (k : ℕ) (f : FormRead) (fits : f .fits ≡ true) where
-  abbrev formed : Formed S
-  formed = record { left = s; constraint = f .constraint }
+module _ (t : List ℕ) (d : Bool) (k : ℕ) (f : FormRead) (fits : f .fits ≡ true) where
+  abbrev formed : Formed Inner
+  formed = record { left = f .inner; constraint = f .constraint }
 
-  pub ended-more : (w : Span) (ws : List Span) → lineWords t (f .at) ≡ w ∷ ws → closed d k (formRead t s f) ≡ noForm
-  ended-more w ws e = closed-more d k (formRead t s f) formed w ws (form-is t s f fits ∙ ap (λ (us : List Span). parsed formed us) e)
+  pub ended-more : (w : Span) (ws : List Span) → lineWords t (f .at) ≡ w ∷ ws → closed d k (formRead t f) ≡ noForm
+  ended-more w ws e = closed-more d k (formRead t f) formed w ws (form-is t f fits ∙ ap (λ (us : List Span). parsed formed us) e)
 
   module _ (none : lineWords t (f .at) ≡ []) where
-    at-last : formRead t s f ≡ parsed formed []
-    at-last = form-is t s f fits ∙ ap (λ (us : List Span). parsed formed us) none
+    at-last : formRead t f ≡ parsed formed []
+    at-last = form-is t f fits ∙ ap (λ (us : List Span). parsed formed us) none
 
-    pub ended-side : isSide d (f .constraint .kind) ≡ false → closed d k (formRead t s f) ≡ noForm
-    ended-side e = closed-side d k (formRead t s f) formed at-last e
+    pub ended-side : isSide d (f .constraint .kind) ≡ false → closed d k (formRead t f) ≡ noForm
+    ended-side e = closed-side d k (formRead t f) formed at-last e
 
     pub ended-read : isSide d (f .constraint .kind) ≡ true
-        → formRead t s (record { fits = true; at = f .at; constraint = defining k (f .constraint) }) ≡ closed d k (formRead t s f)
+        → formRead t (record { fits = true; at = f .at; constraint = defining k (f .constraint); inner = f .inner }) ≡ closed d k (formRead t f)
     ended-read e =
-        form-is t s (record { fits = true; at = f .at; constraint = defining k (f .constraint) }) refl
-        ∙ ap (λ (us : List Span). parsed (record { left = s; constraint = defining k (f .constraint) }) us) none
-        ∙ sym (closed-some d k (formRead t s f) formed at-last e)
+        form-is t (record { fits = true; at = f .at; constraint = defining k (f .constraint); inner = f .inner }) refl
+        ∙ ap (λ (us : List Span). parsed (record { left = f .inner; constraint = defining k (f .constraint) }) us) none
+        ∙ sym (closed-some d k (formRead t f) formed at-last e)

@@ -1,3 +1,4 @@
+pub mod BuildingLaws
 pub mod GrammarLaws
 pub mod KindLaws
 pub mod NameLaws

@@ -6,6 +6,7 @@ use Rattle.text.specs.Split.{NextWord}
 use Rattle.text.specs.declared.Class.the-variants.{Space}
 use Rattle.grammar.specs.Grammar.{Parsed, parsed, onlyIf, Placed, Formed, Kinded, lineWords, token}
 use Rattle.grammar.specs.declared.FormRead.{FormRead}
+use Rattle.grammar.specs.declared.Inner.{Inner}
 use Rattle.grammar.specs.declared.KindRead.{KindRead}
 use Rattle.grammar.specs.declared.OperandRead.{OperandRead}
 use Rattle.grammar.specs.declared.WordRead.{WordRead}
@@ -15,12 +16,11 @@ pub record FirstWord (t : List ℕ) (at : ℕ) (r : WordRead) : Type 0 where
   pub next : NextWord Space t at (r .span)
   pub token : token t (lineWords t at) ≡ r .token
 
--- what an operand and a form leave is what they were handed
-abbrev pub operandRead : {S : Type 0} → List ℕ → S → OperandRead → Parsed (Placed S)
-operandRead t s r = onlyIf (r .fits) (parsed (record { left = s; clock = r .clock }) (lineWords t (r .at)))
+abbrev pub operandRead : List ℕ → OperandRead → Parsed (Placed Inner)
+operandRead t r = onlyIf (r .fits) (parsed (record { left = r .inner; clock = r .clock }) (lineWords t (r .at)))
 
 abbrev pub kindRead : List ℕ → KindRead → Kinded
 kindRead t r = record { kind = r .kind; after = lineWords t (r .at) }
 
-abbrev pub formRead : {S : Type 0} → List ℕ → S → FormRead → Parsed (Formed S)
-formRead t s r = onlyIf (r .fits) (parsed (record { left = s; constraint = r .constraint }) (lineWords t (r .at)))
+abbrev pub formRead : List ℕ → FormRead → Parsed (Formed Inner)
+formRead t r = onlyIf (r .fits) (parsed (record { left = r .inner; constraint = r .constraint }) (lineWords t (r .at)))

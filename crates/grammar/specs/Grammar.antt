@@ -1,9 +1,9 @@
--- The forms of a line, as readers of its words: what stands at their front, and the words after it (document 01, "Table text").
--- Every reader but that of an operand takes the reader of operands, so that only this one says that an operand is one word, and
--- hands on what operands leave for the next one, of any type S. t is the text up to the line's end. Assumes nothing.
+-- The forms of a line, as readers of its words: what stands at their front, and the words after it (document 01, "Table text"; document 02,
+-- M-101). Every reader of a form takes the reader of operands, and hands on what operands leave for the next one, of any type S; the reader of
+-- operands reads a name, or a right side in parentheses with one level less. t is the text up to the line's end. Assumes nothing.
 use mathlib.Core.Bool.{Bool, true, false, not, cond, _&&_}
 use mathlib.Core.List.{List, [], _∷_}
-use Prim.Native.Nat.{ℕ}
+use Prim.Native.Nat.{ℕ, zero, suc}
 use lib.Dec.{leb}
 use Rattle.constraint.specs.declared.Constraint.{Constraint}
 use Rattle.constraint.specs.declared.Definition.{Definition}
@@ -19,13 +19,15 @@ use Rattle.text.specs.declared.Class.the-variants.{Space}
 use Rattle.text.specs.declared.Number.{Number}
 use Rattle.text.specs.declared.Number.the-variants.{NotDigits, TooLarge, Value}
 use Rattle.text.specs.declared.Span.{Span}
+use Rattle.grammar.specs.Building.{defining, provisional, withImplicit}
 use Rattle.grammar.specs.Names.{numberIn}
 use Rattle.grammar.specs.Tokens.{is, tokenOf}
 use Rattle.grammar.specs.declared.Found.{Found}
 use Rattle.grammar.specs.declared.Found.the-variants.{At, Nothing}
+use Rattle.grammar.specs.declared.Inner.{Inner}
 use Rattle.grammar.specs.declared.Names.{Names}
 use Rattle.grammar.specs.declared.Token.{Token}
-use Rattle.grammar.specs.declared.Token.the-variants.{End, Other, Name, Digits, ClockDef, Await, Strictly, Form}
+use Rattle.grammar.specs.declared.Token.the-variants.{End, Other, Name, Digits, ClockDef, Await, Strictly, Form, Open, Close}
 
 -- the words of a line: parted by one or more spaces
 abbrev pub lineWords : List ℕ → ℕ → List Span
@@ -71,9 +73,9 @@ clockOf Nothing = 32
 abbrev pub clockAt : List ℕ → Names → Span → ℕ
 clockAt t ns w = clockOf (numberIn t ns (bytesOf t w))
 
--- the reader of operands: one name. It leaves the names as they are
-unfoldable pub operand : List ℕ → Operands Names
-operand t ns ws = onlyIf (is Name (token t ws)) (parsed (record { left = ns; clock = clockAt t ns (front t ws) }) (rest ws))
+-- one name
+unfoldable pub name : {S : Type 0} → List ℕ → Names → Operands S
+name t ns s ws = onlyIf (is Name (token t ws)) (parsed (record { left = s; clock = clockAt t ns (front t ws) }) (rest ws))
 
 -- ---- kinds: one word, or two where the first is `strictly`
 
@@ -109,6 +111,8 @@ plain ClockDef = Empty
 plain Await = Empty
 plain Strictly = Empty
 plain (Form k) = k
+plain Open = Empty
+plain Close = Empty
 
 -- a kind that was read, and the words after it
 pub record Kinded : Type 0 where
@@ -161,16 +165,30 @@ module _ {S : Type 0} (t : List ℕ) (operands : Operands S) where
   unfoldable pub expression : S → List Span → Parsed (Formed S)
   expression s ws = cond (is Await (token t ws)) (awaitSide s (rest ws)) (pair s ws)
 
--- ---- lines
+-- ---- operands: a name, or a right side in parentheses
 
--- a kind of the side that a line asks for: a definition behind clockDef, a relation without it
+-- a kind of the side that is asked for: a definition behind clockDef and in parentheses, a relation in any other line
 abbrev pub isSide : Bool → Kind → Bool
 isSide d Empty = false
 isSide d (Relates k) = not d
 isSide d (Defines k) = d
 
-abbrev pub defining : ℕ → Constraint → Constraint
-defining c r = record { kind = r .kind; defined = c; first = r .first; second = r .second; parameter = r .parameter; line = r .line }
+-- the closing parenthesis behind a right side, which becomes an implicit clock
+unfoldable pub inner : List ℕ → Formed Inner → List Span → Parsed (Placed Inner)
+inner t f ws =
+    onlyIf (is Close (token t ws) && isSide true (f .constraint .kind))
+    (parsed (record { left = withImplicit (f .left) (f .constraint); clock = provisional (f .left .clocks) }) (rest ws))
+
+-- a parenthesis uses up one of the levels that are left
+unfoldable pub operand : List ℕ → Names → (levels : ℕ) → Operands Inner
+operand t ns zero s ws = name t ns s ws
+operand t ns (suc n) s ws = cond (is Open (token t ws)) (andThen (expression t (operand t ns n) s (rest ws)) (inner t)) (name t ns s ws)
+
+-- no line is nested yet
+abbrev pub levels : ℕ
+levels = 0
+
+-- ---- lines
 
 unfoldable pub atEnd : {S : Type 0} → Bool → ℕ → Formed S → List Span → Parsed (Formed S)
 atEnd d c f [] = onlyIf (isSide d (f .constraint .kind)) (parsed (record { left = f .left; constraint = defining c (f .constraint) }) [])
@@ -187,6 +205,6 @@ lineForm t clock operands s ws =
     (closed true (clock (front t ws)) (expression t operands s (rest (rest ws))))
     (closed false 0 (expression t operands s ws))
 
--- the form of a line whose operands are names, in a table that has these names
-abbrev pub formIn : List ℕ → Names → List Span → Parsed (Formed Names)
-formIn t ns ws = lineForm t (clockAt t ns) (operand t) ns ws
+-- the form of a line in a table that has these names, with operands of this many levels
+abbrev pub formIn : List ℕ → (levels : ℕ) → Names → Inner → List Span → Parsed (Formed Inner)
+formIn t n ns s ws = lineForm t (clockAt t ns) (operand t ns n) s ws

@@ -11,7 +11,7 @@ use Rattle.text.specs.Ascii.{ascii}
 use Rattle.text.specs.Bytes.{letter, digit, inClass, allBytes, sameBytes}
 use Rattle.text.specs.declared.Class.the-variants.{NameByte}
 use Rattle.grammar.specs.declared.Token.{Token}
-use Rattle.grammar.specs.declared.Token.the-variants.{End, Other, Name, Digits, ClockDef, Await, Strictly, Form}
+use Rattle.grammar.specs.declared.Token.the-variants.{End, Other, Name, Digits, ClockDef, Await, Strictly, Form, Open, Close}
 
 -- the place of a token among its kind, by which two are compared
 abbrev pub tag : Token → ℕ
@@ -23,6 +23,8 @@ tag ClockDef = 4
 tag Await = 5
 tag Strictly = 6
 tag (Form k) = 7
+tag Open = 8
+tag Close = 9
 
 abbrev pub is : Token → Token → Bool
 is a b = eqb (tag a) (tag b)
@@ -36,7 +38,13 @@ infix 68 _says_
 abbrev pub _says_ : List ℕ → Token → Spelled
 w says t = record { bytes = w; token = t }
 
--- the words of the forms, each once
+-- the words of the forms, each once; the parentheses of an operand (document 02, M-101)
+abbrev pub parentheses : List Spelled
+parentheses =
+    ascii "(" says Open ∷
+    ascii ")" says Close ∷
+    []
+
 abbrev pub definitionWords : List Spelled
 definitionWords =
     ascii "clockUnion" says Form (Defines Union) ∷
@@ -46,7 +54,7 @@ definitionWords =
     ascii "sampled" says Form (Defines Sampled) ∷
     ascii "upto" says Form (Defines Upto) ∷
     ascii "await" says Await ∷
-    []
+    parentheses
 
 abbrev pub formWords : List Spelled
 formWords =

@@ -1,5 +1,6 @@
-// The table that is being built.
+// The table that is being built, and its implicit clocks.
 use super::Builder;
+use super::Inner;
 use super::Names;
 use super::Table;
 use constraint::Constraint;
@@ -20,6 +21,7 @@ pub fn empty_table() -> Table
             count: 0,
             over: false,
         },
+        implicit: 0,
     }
 }
 
@@ -35,17 +37,61 @@ pub fn start() -> Builder
         count: 0,
         names,
         defined: 0,
+        implicit: 0,
     }
 }
 
-// The table with one constraint more, on its line, and with the names of that line.
-pub fn with_constraint(
-    builder: Builder,
-    names: Names,
-    place: Place,
-    constraint: Constraint,
-) -> Builder
-    ensures { λ r. ⌜ r ≡ d.withConstraint builder names (place .0) constraint ⌝ }
+// Before a line's first implicit clock, where the lines above have this many.
+pub fn no_inner(implicit: usize) -> Inner
+    ensures { λ r. ⌜ r ≡ d.noInner implicit ⌝ }
+{
+    Inner {
+        clocks: implicit,
+        records: [constraint::empty(); 32],
+        count: 0,
+    }
+}
+
+// The number of the next implicit clock, until all names are known.
+pub fn provisional(clocks: usize) -> u8
+    ensures { λ r. ⌜ r ≡ d.provisional clocks ⌝ }
+{
+    if clocks < 33 {
+        return 32 + clocks as u8;
+    }
+    65
+}
+
+// Implicit clocks, counted to 33.
+fn counted(clocks: usize) -> usize
+    ensures { λ r. ⌜ r ≡ d.counted clocks ⌝ }
+{
+    if clocks < 33 {
+        return clocks + 1;
+    }
+    clocks
+}
+
+// One implicit clock more, which a right side defines.
+pub fn with_implicit(inner: Inner, constraint: Constraint) -> Inner
+    ensures { λ r. ⌜ r ≡ d.withImplicit inner constraint ⌝ }
+{
+    let k = inner.count;
+    let mut more = inner;
+    more.clocks = counted(inner.clocks);
+    if 32 <= k {
+        return more;
+    }
+    let mut own = constraint;
+    own.defined = provisional(inner.clocks);
+    more.records[k] = own;
+    more.count = k + 1;
+    more
+}
+
+// The table with one constraint more, on its line.
+fn with_constraint(place: Place, builder: Builder, constraint: Constraint) -> Builder
+    ensures { λ r. ⌜ r ≡ d.withConstraint (place .0) builder constraint ⌝ }
 {
     let count = builder.count;
     if 64 <= count {
@@ -56,20 +102,85 @@ pub fn with_constraint(
     let mut more = builder;
     more.records[count] = own;
     more.count = count + 1;
-    more.names = names;
     more.defined = constraint::with_defined(builder.defined, own);
     more
+}
+
+// The table with the definitions of a line's implicit clocks.
+fn with_definitions(place: Place, builder: Builder, inner: Inner) -> Builder
+    ensures { λ r. ⌜ r ≡ d.withConstraints (place .0) builder (d.definitions inner) ⌝ }
+{
+    let mut more = builder;
+    let mut i: usize = 0;
+    while i < inner.count {
+        if 32 <= i {
+            return more;
+        }
+        let constraint = inner.records[i];
+        more = with_constraint(place, more, constraint);
+        i += 1;
+    }
+    more
+}
+
+// The table with a line's names, implicit clocks and constraint.
+pub fn with_line(
+    place: Place,
+    builder: Builder,
+    names: Names,
+    inner: Inner,
+    constraint: Constraint,
+) -> Builder
+    ensures { λ r. ⌜ r ≡ d.withLine (place .0) builder names inner constraint ⌝ }
+{
+    let mut more = builder;
+    more.names = names;
+    more.implicit = inner.clocks;
+    with_constraint(place, with_definitions(place, more, inner), constraint)
+}
+
+// A clock's number behind this many names.
+fn renumber(named: usize, clock: u8) -> u8
+    ensures { λ r. ⌜ r ≡ d.renumber named clock ⌝ }
+{
+    if clock < 32 {
+        return clock;
+    }
+    if 32 <= named {
+        return clock;
+    }
+    clock - (32 - named as u8)
+}
+
+// A constraint with its clocks' numbers behind this many names.
+fn renumbered(named: usize, constraint: Constraint) -> Constraint
+    ensures { λ r. ⌜ r ≡ d.renumbered named constraint ⌝ }
+{
+    let mut own = constraint;
+    own.defined = renumber(named, constraint.defined);
+    own.first = renumber(named, constraint.first);
+    own.second = renumber(named, constraint.second);
+    own
 }
 
 // The table once its last line is read.
 pub fn finish(builder: Builder) -> Table
     ensures { λ r. ⌜ r ≡ d.finish builder ⌝ }
 {
-    let records = builder.records;
     let names = builder.names;
+    let named = names.count;
+    let before = builder.records;
+    let mut records = before;
+    let mut i: usize = 0;
+    while i < 64 {
+        let constraint = before[i];
+        records[i] = renumbered(named, constraint);
+        i += 1;
+    }
     Table {
         records,
         count: builder.count,
         names,
+        implicit: builder.implicit,
     }
 }

@@ -1,5 +1,5 @@
 // A line of a table: its words told apart, the names of clocks with their numbers, the table so far, and the forms of a line as readers of
-// its words (document 01, "Table text").
+// its words (document 01, "Table text"; document 02, M-101).
 
 mod building;
 mod line;
@@ -8,8 +8,9 @@ mod words;
 
 pub use building::empty_table;
 pub use building::finish;
+pub use building::no_inner;
 pub use building::start;
-pub use building::with_constraint;
+pub use building::with_line;
 use constraint::Constraint;
 use constraint::Kind;
 pub use line::await_number;
@@ -20,7 +21,7 @@ use text::Span;
 pub use words::is;
 pub use words::word_at;
 
-// What a word is to the line reader: a word of a form, a clock's name, digits, any other word, or none at a line's end.
+// What a word is to the line reader: a word of a form, a clock's name, digits, a parenthesis, any other word, or none at a line's end.
 pub enum Token {
     End,
     Other,
@@ -30,6 +31,8 @@ pub enum Token {
     Await,
     Strictly,
     Form(Kind),
+    Open,
+    Close,
 }
 
 // The first word of a line from an offset on, and what it is; the empty one where there is none.
@@ -51,26 +54,36 @@ pub struct Names {
     pub over: bool,
 }
 
-// The records in table order, the slots after them being empty, and the names of their clocks.
+// The records in table order, the slots after them being empty, the names of their clocks, and how many implicit clocks there are.
 pub struct Table {
     pub records: [Constraint; 64],
     pub count: usize,
     pub names: Names,
+    pub implicit: usize,
 }
 
-// The table so far, and the clocks that it defines, as a tick set.
+// The table so far, and the named clocks that it defines, as a tick set.
 pub struct Builder {
     pub records: [Constraint; 64],
     pub count: usize,
     pub names: Names,
     pub defined: u32,
+    pub implicit: usize,
 }
 
-// What an operand's reader answers: whether an operand stands there, where it ends, and its clock.
+// How many implicit clocks there are so far, in the lines above and in the line at hand, and the definitions of those that the line has.
+pub struct Inner {
+    pub clocks: usize,
+    pub records: [Constraint; 32],
+    pub count: usize,
+}
+
+// What an operand's reader answers: whether an operand stands there, where it ends, its clock, and the implicit clocks with those in it.
 pub struct OperandRead {
     pub fits: bool,
     pub at: usize,
     pub clock: u8,
+    pub inner: Inner,
 }
 
 // What the reader of a kind answers: the kind, empty where none stands there, and where its words end.
@@ -79,9 +92,10 @@ pub struct KindRead {
     pub at: usize,
 }
 
-// What the reader of a form answers: whether it fits, where it ends, and its constraint.
+// What the reader of a form answers: whether it fits, where it ends, its constraint, and the implicit clocks with those in it.
 pub struct FormRead {
     pub fits: bool,
     pub at: usize,
     pub constraint: Constraint,
+    pub inner: Inner,
 }

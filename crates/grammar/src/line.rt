@@ -1,11 +1,14 @@
 // The form of a line: readers of operands, kinds, right sides and whole lines, each from an offset of the text that ends with
-// the line. Only the operand's reader knows that an operand is one word.
+// the line. A right side reads operands, and an operand in parentheses reads a right side, with one level less.
 use super::FormRead;
 use super::Found;
+use super::Inner;
 use super::KindRead;
 use super::Names;
 use super::OperandRead;
 use super::Token;
+use super::building::provisional;
+use super::building::with_implicit;
 use super::naming::find_name;
 use super::words::is;
 use super::words::word_at;
@@ -22,7 +25,6 @@ ghost use mathlib.Core.Path.{_≡_};
 ghost use mathlib.Core.Bool.{false};
 ghost use Rattle.grammar.specs.Answers as a;
 ghost use Rattle.grammar.specs.Grammar as g;
-ghost use Rattle.grammar.specs.declared.Names.{Names};
 
 // The clock that a look-up finds; a name that there is no room for has none.
 fn clock_of(found: Found) -> u8
@@ -41,23 +43,20 @@ fn clock_at(line: &[u8], names: Names, word: Span) -> u8
     clock_of(find_name(line, names, text::part(line, word)))
 }
 
-// An operand: the name of a clock.
-fn operand(line: &[u8], names: Names, at: usize) -> OperandRead
-    ensures { λ r. ⌜ a.operandRead (now (line .entry)) names r ≡ g.operand (now (line .entry)) names (g.lineWords (now (line .entry)) at) ⌝ }
+// An operand that is the name of a clock.
+fn name(line: &[u8], names: Names, inner: Inner, at: usize) -> OperandRead
+    ensures { λ r. ⌜ a.operandRead (now (line .entry)) r ≡ g.name (now (line .entry)) names inner (g.lineWords (now (line .entry)) at) ⌝ }
 {
     let word = word_at(line, at);
     if !is(Token::Name, word) {
-        return OperandRead {
-            fits: false,
-            at,
-            clock: 0,
-        };
+        return no_operand(inner);
     }
     let span = word.span;
     OperandRead {
         fits: true,
         at: span.end,
         clock: clock_at(line, names, span),
+        inner,
     }
 }
 
@@ -114,6 +113,8 @@ fn plain(token: Token) -> Kind
         Token::Await => Kind::Empty,
         Token::Strictly => Kind::Empty,
         Token::Form(kind) => kind,
+        Token::Open => Kind::Empty,
+        Token::Close => Kind::Empty,
     }
 }
 
@@ -161,14 +162,26 @@ fn sides(kind: Kind, first: u8, second: u8, parameter: Parameter) -> Constraint
     }
 }
 
-// The answer that no form fits.
-fn no_form() -> FormRead
+// The answer that no operand fits, and that no form does.
+fn no_operand(inner: Inner) -> OperandRead
+    ensures { λ r. ⌜ r .fits ≡ false ⌝ }
+{
+    OperandRead {
+        fits: false,
+        at: 0,
+        clock: 0,
+        inner,
+    }
+}
+
+fn no_form(inner: Inner) -> FormRead
     ensures { λ r. ⌜ r .fits ≡ false ⌝ }
 {
     FormRead {
         fits: false,
         at: 0,
         constraint: sides(Kind::Empty, 0, 0, Parameter(0)),
+        inner,
     }
 }
 
@@ -189,18 +202,19 @@ pub fn await_number(digits: &[u8]) -> u32
 }
 
 // A right side: a number and an operand behind `await`, or two operands with a kind between them.
-fn expression(line: &[u8], names: Names, at: usize) -> FormRead
-    ensures { λ r. ⌜ a.formRead (now (line .entry)) names r ≡ g.expression (now (line .entry)) (g.operand (now (line .entry))) names (g.lineWords (now (line .entry)) at) ⌝ }
+fn expression(line: &[u8], names: Names, inner: Inner, at: usize, level: usize) -> FormRead
+    ensures { λ r. ⌜ a.formRead (now (line .entry)) r ≡ g.expression (now (line .entry)) (g.operand (now (line .entry)) names level) inner (g.lineWords (now (line .entry)) at) ⌝ }
 {
     let word = word_at(line, at);
     if is(Token::Await, word) {
         let number = word_at(line, word.span.end);
         if !is(Token::Digits, number) {
-            return no_form();
+            return no_form(inner);
         }
-        let awaited = operand(line, names, number.span.end);
+        let awaited = operand(line, names, inner, number.span.end, level);
+        let left = awaited.inner;
         if !awaited.fits {
-            return no_form();
+            return no_form(left);
         }
         let digits = number.span;
         let n = await_number(text::part(line, digits));
@@ -213,29 +227,33 @@ fn expression(line: &[u8], names: Names, at: usize) -> FormRead
                 0,
                 Parameter(n),
             ),
+            inner: left,
         };
     }
-    let first = operand(line, names, at);
+    let first = operand(line, names, inner, at, level);
+    let between = first.inner;
     if !first.fits {
-        return no_form();
+        return no_form(between);
     }
-    let between = kind_at(line, first.at);
-    let kind = between.kind;
+    let read = kind_at(line, first.at);
+    let kind = read.kind;
     if !is_kind(kind) {
-        return no_form();
+        return no_form(between);
     }
-    let second = operand(line, names, between.at);
+    let second = operand(line, names, between, read.at, level);
+    let left = second.inner;
     if !second.fits {
-        return no_form();
+        return no_form(left);
     }
     FormRead {
         fits: true,
         at: second.at,
         constraint: sides(kind, first.clock, second.clock, Parameter(0)),
+        inner: left,
     }
 }
 
-// Whether a kind is of the side that a line asks for: a definition behind clockDef, a relation without it.
+// Whether a kind is of the side that is asked for: a definition behind clockDef and in parentheses, a relation in any other line.
 fn is_side(definition: bool, kind: Kind) -> bool
     ensures { λ r. ⌜ r ≡ g.isSide definition kind ⌝ }
 {
@@ -246,41 +264,79 @@ fn is_side(definition: bool, kind: Kind) -> bool
     }
 }
 
+// The closing parenthesis behind a right side, which becomes an implicit clock.
+fn enclosed(line: &[u8], form: FormRead) -> OperandRead
+    ensures { λ r. ⌜ a.operandRead (now (line .entry)) r ≡ g.andThen (a.formRead (now (line .entry)) form) (g.inner (now (line .entry))) ⌝ }
+{
+    let inner = form.inner;
+    if !form.fits {
+        return no_operand(inner);
+    }
+    let word = word_at(line, form.at);
+    let constraint = form.constraint;
+    let kind = constraint.kind;
+    if !(is(Token::Close, word) & is_side(true, kind)) {
+        return no_operand(inner);
+    }
+    OperandRead {
+        fits: true,
+        at: word.span.end,
+        clock: provisional(inner.clocks),
+        inner: with_implicit(inner, constraint),
+    }
+}
+
+// An operand: a name, or a right side in parentheses, which use up one of the levels that are left.
+fn operand(line: &[u8], names: Names, inner: Inner, at: usize, level: usize) -> OperandRead
+    ensures { λ r. ⌜ a.operandRead (now (line .entry)) r ≡ g.operand (now (line .entry)) names level inner (g.lineWords (now (line .entry)) at) ⌝ }
+{
+    if level == 0 {
+        return name(line, names, inner, at);
+    }
+    let word = word_at(line, at);
+    if !is(Token::Open, word) {
+        return name(line, names, inner, at);
+    }
+    enclosed(line, expression(line, names, inner, word.span.end, level - 1))
+}
+
 // A form of the side that the line asks for, with no word after it, which defines a clock.
 fn closed(line: &[u8], definition: bool, clock: u8, form: FormRead) -> FormRead
-    ensures { λ r. ⌜ ((ns : Names) → a.formRead (now (line .entry)) ns r ≡ g.closed definition clock (a.formRead (now (line .entry)) ns form)) ⌝ }
+    ensures { λ r. ⌜ a.formRead (now (line .entry)) r ≡ g.closed definition clock (a.formRead (now (line .entry)) form) ⌝ }
 {
+    let inner = form.inner;
     if !form.fits {
-        return no_form();
+        return no_form(inner);
     }
     let at = form.at;
     let word = text::next_word(Class::Space, line, at);
     if word.start < word.end {
-        return no_form();
+        return no_form(inner);
     }
     let mut constraint = form.constraint;
     let kind = constraint.kind;
     if !is_side(definition, kind) {
-        return no_form();
+        return no_form(inner);
     }
     constraint.defined = clock;
     FormRead {
         fits: true,
         at,
         constraint,
+        inner,
     }
 }
 
 // A line: a clock, clockDef and a right side, or a relation.
-pub fn line_form(line: &[u8], names: Names, at: usize) -> FormRead
-    ensures { λ r. ⌜ a.formRead (now (line .entry)) names r ≡ g.formIn (now (line .entry)) names (g.lineWords (now (line .entry)) at) ⌝ }
+pub fn line_form(line: &[u8], names: Names, inner: Inner, at: usize, levels: usize) -> FormRead
+    ensures { λ r. ⌜ a.formRead (now (line .entry)) r ≡ g.formIn (now (line .entry)) levels names inner (g.lineWords (now (line .entry)) at) ⌝ }
 {
     let clock = word_at(line, at);
     let second = word_at(line, clock.span.end);
     if is(Token::Name, clock) & is(Token::ClockDef, second) {
-        let form = expression(line, names, second.span.end);
+        let form = expression(line, names, inner, second.span.end, levels);
         let name = clock.span;
         return closed(line, true, clock_at(line, names, name), form);
     }
-    closed(line, false, 0, expression(line, names, at))
+    closed(line, false, 0, expression(line, names, inner, at, levels))
 }

@@ -28,7 +28,20 @@ fn shape(word: &[u8]) -> Token
     Token::Other
 }
 
-// The words of the right sides of clockDef, and shapes.
+// Parentheses, and shapes.
+fn parenthesis(word: &[u8]) -> Token
+    ensures { λ r. ⌜ r ≡ t.lookUp (now (word .entry)) t.parentheses ⌝ }
+{
+    if text::same_bytes(word, b"(") {
+        return Token::Open;
+    }
+    if text::same_bytes(word, b")") {
+        return Token::Close;
+    }
+    shape(word)
+}
+
+// The words of the right sides of clockDef, parentheses, and shapes.
 fn definition_word(word: &[u8]) -> Token
     ensures { λ r. ⌜ r ≡ t.lookUp (now (word .entry)) t.definitionWords ⌝ }
 {
@@ -53,7 +66,7 @@ fn definition_word(word: &[u8]) -> Token
     if text::same_bytes(word, b"await") {
         return Token::Await;
     }
-    shape(word)
+    parenthesis(word)
 }
 
 // What a word is.
@@ -105,6 +118,8 @@ fn tag(token: Token) -> u8
         Token::Await => 5,
         Token::Strictly => 6,
         Token::Form(_) => 7,
+        Token::Open => 8,
+        Token::Close => 9,
     }
 }
 

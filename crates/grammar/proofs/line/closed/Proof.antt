@@ -11,40 +11,40 @@ use Rattle.grammar.proofs.line.closed.Statement.{statement}
 use Rattle.grammar.proofs.line.closed.Tie as tie
 
 returns : tie.Need-returns
-returns c ns =
-    let s = c .before .before .before .before .args in
+returns c =
+    let s = c .before .before .before .before .before .args in
     let t = now (s .line) in
-    form-not t ns _ (c .no-form .ensures) ∙ sym (closed-none (s .definition) (s .clock) (formRead t ns (s .form)) (form-not t ns (s .form) (not-true _ (c .before .if1 .taken))))
+    form-not t _ (c .no-form .ensures) ∙ sym (closed-none (s .definition) (s .clock) (formRead t (s .form)) (form-not t (s .form) (not-true _ (c .before .if1 .taken))))
 
 returns-2 : tie.Need-returns-2
-returns-2 c ns =
+returns-2 c =
     let n = c .before .before .before in
     let w = n .next-word in
-    let s = n .before .before .before .before .args in
+    let s = n .before .before .before .before .before .args in
     let t = now (s .line) in
-    form-not t ns _ (c .no-form2 .ensures)
-    ∙ sym (ended-more t ns (s .definition) (s .clock) (s .form) (not-false _ (n .before .if1 .left)) _ _ (is-word t Space (s .form .at) (w .result) (w .ensures) (c .before .if2 .taken)))
+    form-not t _ (c .no-form2 .ensures)
+    ∙ sym (ended-more t (s .definition) (s .clock) (s .form) (not-false _ (n .before .if1 .left)) _ _ (is-word t Space (s .form .at) (w .result) (w .ensures) (c .before .if2 .taken)))
 
 returns-3 : tie.Need-returns-3
-returns-3 c ns =
+returns-3 c =
     let i = c .before .before in
     let e = i .before .before in
     let n = e .before .before in
     let w = n .next-word in
-    let s = n .before .before .before .before .args in
+    let s = n .before .before .before .before .before .args in
     let t = now (s .line) in
-    form-not t ns _ (c .no-form3 .ensures)
-    ∙ sym (ended-side t ns (s .definition) (s .clock) (s .form) (not-false _ (n .before .if1 .left)) (is-last t Space (s .form .at) (w .result) (w .ensures) (e .if2 .left)) (sym (i .is-side .ensures) ∙ not-true _ (c .before .if3 .taken)))
+    form-not t _ (c .no-form3 .ensures)
+    ∙ sym (ended-side t (s .definition) (s .clock) (s .form) (not-false _ (n .before .if1 .left)) (is-last t Space (s .form .at) (w .result) (w .ensures) (e .if2 .left)) (sym (i .is-side .ensures) ∙ not-true _ (c .before .if3 .taken)))
 
 returns-4 : tie.Need-returns-4
-returns-4 c ns =
+returns-4 c =
     let i = c .before in
     let e = i .before .before in
     let n = e .before .before in
     let w = n .next-word in
-    let s = n .before .before .before .before .args in
+    let s = n .before .before .before .before .before .args in
     let t = now (s .line) in
-    ended-read t ns (s .definition) (s .clock) (s .form) (not-false _ (n .before .if1 .left)) (is-last t Space (s .form .at) (w .result) (w .ensures) (e .if2 .left)) (sym (i .is-side .ensures) ∙ not-false _ (c .if3 .left))
+    ended-read t (s .definition) (s .clock) (s .form) (not-false _ (n .before .if1 .left)) (is-last t Space (s .form .at) (w .result) (w .ensures) (e .if2 .left)) (sym (i .is-side .ensures) ∙ not-false _ (c .if3 .left))
 
 pub closed-spec : {M : Type 1} → statement M
 closed-spec =

@@ -27,16 +27,16 @@ returns c =
     let w = v .before .word-at in
     let s = v .before .before .before .args in
     let t = now (s .line) in
-    c .closed .ensures (s .names)
+    c .closed .ensures
     ∙ rw (c .before .clock-at .ensures, x .expression .ensures, after-second t (s .at) (w .result) (w .ensures) (v .word-at2 .result) (v .word-at2 .ensures), w .ensures .next .found)
-    (sym (line-defines t (operand t) (s .names) (lineWords t (s .at)) (clockAt t (s .names)) (defines (d .before) _ (d .if1 .taken))))
+    (sym (line-defines t (operand t (s .names) (s .levels)) (s .inner) (lineWords t (s .at)) (clockAt t (s .names)) (defines (d .before) _ (d .if1 .taken))))
 
 returns-2 : tie.Need-returns-2
 returns-2 c =
     let d = c .before .before in
     let s = d .before .before .before .before .before .before .args in
     let t = now (s .line) in
-    c .closed2 .ensures (s .names) ∙ rw (c .before .expression2 .ensures) (sym (line-relates t (operand t) (s .names) (lineWords t (s .at)) (clockAt t (s .names)) (defines (d .before) _ (d .if1 .left))))
+    c .closed2 .ensures ∙ rw (c .before .expression2 .ensures) (sym (line-relates t (operand t (s .names) (s .levels)) (s .inner) (lineWords t (s .at)) (clockAt t (s .names)) (defines (d .before) _ (d .if1 .left))))
 
 pub line-form-spec : {M : Type 1} → statement M
 line-form-spec =

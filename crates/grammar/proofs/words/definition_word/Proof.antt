@@ -6,7 +6,7 @@ use denote.Ref.{now}
 use lib.ListN.{drop}
 use Rattle.grammar.specs.Tokens.{lookUp, definitionWords}
 use borrow.Author.Needs.{needs}
-use Rattle.grammar.proofs.TokenLaws.{look-stop, look-on, look-done}
+use Rattle.grammar.proofs.TokenLaws.{look-stop, look-on}
 use Rattle.grammar.proofs.words.definition_word.Statement.{statement}
 use Rattle.grammar.proofs.words.definition_word.Tie as tie
 
@@ -60,4 +60,4 @@ definition-word-spec =
     (λ c κs. tt)
     (λ c. look-stop _ _ _ (sym (c .before .same-bytes7 .ensures) ∙ c .if7 .taken) ∙ sym (left6 (c .before .before .before)))
     (λ c κs. tt)
-    (λ c. c .shape .ensures ∙ look-done _ ∙ sym (left7 (c .before))))
+    (λ c. c .parenthesis .ensures ∙ sym (left7 (c .before))))
