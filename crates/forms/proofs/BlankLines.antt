@@ -53,7 +53,7 @@ no-cons : {A : Type 0} (a : List A) (x : A) (b : List A) → a ++ x ∷ b ≡ []
 no-cons [] x b e = let z : _≡_ {A = ℕ} 0 1 = cc in omega arith
 no-cons (y ∷ a) x b e = let z : _≡_ {A = ℕ} 0 1 = cc in omega arith
 
-pub form-filled : {ws : Words} {f : Form Operand} → IsForm IsOperand ws f → ws ≡ [] → ⊥
+pub form-filled : {O : Type 0} {Op : Words → O → Type 0} {ws : Words} {f : Form O} → IsForm Op ws f → ws ≡ [] → ⊥
 form-filled (coincides {a = a} {b = b} p q) e = no-cons a _ b e
 form-filled (excludes {a = a} {b = b} p q) e = no-cons a _ b e
 form-filled (sub-clock {a = a} {b = b} p q) e = no-cons a _ b e

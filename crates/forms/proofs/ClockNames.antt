@@ -9,7 +9,7 @@ use lib.ListN.{length, length-append}
 use Rattle.text.specs.Bytes.{sameBytes}
 use Rattle.text.proofs.Bytes.{same-equal, equal-same, differ-same}
 use Rattle.forms.specs.Forms.{Word, Words, Line, wordsOf, oneOf}
-use Rattle.forms.specs.Lines.{namesIn, constraintsIn, withNames, withLines, constraints, standing}
+use Rattle.forms.specs.Lines.{namesIn, pairsIn, constraintsIn, withNames, withLines, pairs, constraints, standing}
 use Rattle.forms.proofs.SomeLaws.{or-true}
 
 pub same-turned : (a b : List ℕ) → sameBytes a b ≡ sameBytes b a
@@ -119,6 +119,14 @@ abbrev pub AllOf : (us ws : Words) → Type 0
 AllOf us [] = Unit {0}
 AllOf us (w ∷ ws) = (oneOf us w ≡ true) × AllOf us ws
 
+pub all-left : (us vs ws : Words) → AllOf us (vs ++ ws) → AllOf us vs
+all-left us [] ws a = tt
+all-left us (v ∷ vs) ws a = (a .0, all-left us vs ws (a .1))
+
+pub all-right : (us vs ws : Words) → AllOf us (vs ++ ws) → AllOf us ws
+all-right us [] ws a = a
+all-right us (v ∷ vs) ws a = all-right us vs ws (a .1)
+
 pub names-have : (us ws : Words) → AllOf (withNames us ws) ws
 unfolding withNames
 names-have us [] = tt
@@ -139,3 +147,8 @@ pub constraints-more : (ls : List Line) (l : Line) → constraints (ls ++ l ∷ 
 unfolding constraints
 constraints-more [] l = omega arith
 constraints-more (k ∷ ls) l = omega (arith, constraints-more ls l)
+
+pub pairs-more : (ls : List Line) (l : Line) → pairs (ls ++ l ∷ []) ≡ pairs ls + pairsIn (wordsOf l)
+unfolding pairs
+pairs-more [] l = omega arith
+pairs-more (k ∷ ls) l = omega (arith, pairs-more ls l)

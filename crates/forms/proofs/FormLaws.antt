@@ -20,7 +20,8 @@ use Rattle.text.specs.Digits.{value, number}
 use Rattle.text.specs.Split.{bytesOf, front, rest}
 use Rattle.text.specs.declared.Number.the-variants.{TooLarge, Value}
 use Rattle.text.specs.declared.Span.{Span}
-use Rattle.grammar.specs.Grammar.{Parsed, noForm, parsed, onlyIf, Placed, Formed, Operands, token, kindAt, isKind, upToMillion, awaitNumber, sides, second, pair, awaitSide, expression, isSide, defining, atEnd, closed, lineForm}
+use Rattle.grammar.specs.Building.{defining}
+use Rattle.grammar.specs.Grammar.{Parsed, noForm, parsed, onlyIf, Placed, Formed, Operands, token, kindAt, isKind, upToMillion, awaitNumber, sides, second, pair, awaitSide, expression, isSide, atEnd, closed, lineForm}
 use Rattle.grammar.specs.Tokens.{is, tokenOf, lookUp}
 use Rattle.grammar.specs.declared.Token.the-variants.{Name, Digits, ClockDef, Await}
 use Rattle.grammar.proofs.GrammarLaws.{Each, each-only, each-then, await-some, pair-some, line-defines, line-relates, closed-some}
@@ -66,6 +67,26 @@ module _ {O : Type 0} (IsOp : Words → O → Type 0) {a c : Words} {x y : O} (p
   right-row Sampled n = sampled p q
   right-row Upto n = upto p q
 
+-- ---- what forms come to: placed operand by operand
+abbrev pub ofClock : {S : Type 0} → ℕ → Formed S → Formed S
+ofClock c f = record { left = f .left; constraint = defining c (f .constraint) }
+
+module _ {S O : Type 0} (placed : S → O → Placed S) where
+  abbrev pub pairOf : S → Kind → O → O → Formed S
+  pairOf s k x y = record {
+    left = placed (placed s x .left) y .left;
+    constraint = sides k (placed s x .clock) (placed (placed s x .left) y .clock) (record { 0 = 0 });
+  }
+
+  abbrev pub rightOf : S → Right O → Formed S
+  rightOf s (both k x y) = pairOf s (Defines k) x y
+  rightOf s (awaits n x) = record { left = placed s x .left; constraint = sides (Defines AwaitKind) (placed s x .clock) 0 (record { 0 = parameterOf n }) }
+
+  -- the clock of a name by its bytes
+  abbrev pub formWith : (Word → ℕ) → S → Form O → Formed S
+  formWith named s (relates k x y) = ofClock 0 (pairOf s (Relates k) x y)
+  formWith named s (defines c r) = ofClock (named c) (rightOf s r)
+
 -- ---- readers of operands
 -- what an operand may open with: it is one name, or its first word is neither a name nor `await`
 pub data Opens : Words → Type 0 where
@@ -92,35 +113,40 @@ module _ (t : List ℕ) {S O : Type 0} (IsOp : Words → O → Type 0) (placed :
     pub complete : (s : S) (ws : List Span) (a : Words) (x : O) (us : Words) → IsOp a x → said t ws ≡ a ++ us → Took t (operands s ws) (placed s x) us
     pub opens : (a : Words) (x : O) → IsOp a x → Opens a
 
-  -- ---- what forms come to: placed operand by operand
-  abbrev pub pairOf : S → Kind → O → O → Formed S
-  pairOf s k x y = record {
-    left = placed (placed s x .left) y .left;
-    constraint = sides k (placed s x .clock) (placed (placed s x .left) y .clock) (record { 0 = 0 });
-  }
-
-  abbrev pub rightOf : S → Right O → Formed S
-  rightOf s (both k x y) = pairOf s (Defines k) x y
-  rightOf s (awaits n x) = record { left = placed s x .left; constraint = sides (Defines AwaitKind) (placed s x .clock) 0 (record { 0 = parameterOf n }) }
-
-  abbrev pub ofClock : ℕ → Formed S → Formed S
-  ofClock c f = record { left = f .left; constraint = defining c (f .constraint) }
-
-  -- the clock of a name by its bytes
-  abbrev pub formWith : (Word → ℕ) → S → Form O → Formed S
-  formWith named s (relates k x y) = ofClock 0 (pairOf s (Relates k) x y)
-  formWith named s (defines c r) = ofClock (named c) (rightOf s r)
-
   -- ---- what was read: two operands and a kind that is no await, or an await
   pub data SideTaken (s : S) (ws us : List Span) : Formed S → Type 0 where
-    of-pair : {a c : Words} {x y : O} {k : Kind} → notAwait k ≡ true → IsOp a x → IsOp c y → said t ws ≡ a ++ (kindWords k ++ (c ++ said t us)) → SideTaken s ws us (pairOf s k x y)
-    of-await : {n : Word} {a : Words} {x : O} → isDigits n ≡ true → IsOp a x → said t ws ≡ ascii "await" ∷ n ∷ (a ++ said t us) → SideTaken s ws us (rightOf s (awaits (value 0 n) x))
+    of-pair : {a c : Words} {x y : O} {k : Kind} → notAwait k ≡ true → IsOp a x → IsOp c y → said t ws ≡ a ++ (kindWords k ++ (c ++ said t us)) → SideTaken s ws us (pairOf placed s k x y)
+    of-await : {n : Word} {a : Words} {x : O} → isDigits n ≡ true → IsOp a x → said t ws ≡ ascii "await" ∷ n ∷ (a ++ said t us) → SideTaken s ws us (rightOf placed s (awaits (value 0 n) x))
+
+  -- the words in front are a right side, and what was read is that right side, placed
+  pub record RightTaken (s : S) (ws us : List Span) (f : Formed S) : Type 0 where
+    pub words : Words
+    pub it : Right O
+    pub split : said t ws ≡ words ++ said t us
+    pub fits : IsRight IsOp words it
+    pub made : f ≡ rightOf placed s it
+
+  -- a side that was read is a right side where it defines a clock
+  both-taken : (s : S) (ws us : List Span) (a c : Words) (x y : O) (k : Kind) → notAwait k ≡ true → IsOp a x → IsOp c y → isSide true k ≡ true → said t ws ≡ a ++ (kindWords k ++ (c ++ said t us)) → RightTaken s ws us (pairOf placed s k x y)
+  both-taken s ws us a c x y Empty m p q i e = absurd (false≢true i)
+  both-taken s ws us a c x y (Relates k) m p q i e = absurd (false≢true i)
+  both-taken s ws us a c x y (Defines k) m p q i e = record {
+    words = a ++ (kindWords (Defines k) ++ c);
+    it = both k x y;
+    split = e ∙ ap (λ (z : Words). a ++ z) (sym (append-assoc (kindWords (Defines k)) c (said t us))) ∙ sym (append-assoc a (kindWords (Defines k) ++ c) (said t us));
+    fits = right-row IsOp p q k m;
+    made = refl;
+  }
+
+  pub right-taken : (s : S) (ws us : List Span) (f : Formed S) → SideTaken s ws us f → isSide true (f .constraint .kind) ≡ true → RightTaken s ws us f
+  right-taken s ws us f (of-pair {a = a} {c = c} {x = x} {y = y} {k = k} m p q e) i = both-taken s ws us a c x y k m p q i e
+  right-taken s ws us f (of-await {n = n} {a = a} {x = x} d p e) i = record { words = ascii "await" ∷ n ∷ a; it = awaits (value 0 n) x; split = e; fits = await d p; made = refl }
 
   pub record LineTaken (named : Word → ℕ) (s : S) (ws : List Span) (g : Formed S) (us : List Span) : Type 0 where
     pub none : us ≡ []
     pub form : Form O
     pub fits : IsForm IsOp (said t ws) form
-    pub made : g ≡ formWith named s form
+    pub made : g ≡ formWith placed named s form
 
   module _ (operands : Operands S) (A : Agrees operands) where
     -- ---- sound
@@ -154,7 +180,7 @@ module _ (t : List ℕ) {S O : Type 0} (IsOp : Words → O → Type 0) (placed :
         go false w = pair-sound s ws
 
     module _ (named : Word → ℕ) (s : S) (ws : List Span) where
-      relation-made : (a c : Words) (x y : O) (k : Kind) → IsOp a x → IsOp c y → isSide false k ≡ true → said t ws ≡ a ++ (kindWords k ++ (c ++ [])) → LineTaken named s ws (ofClock 0 (pairOf s k x y)) []
+      relation-made : (a c : Words) (x y : O) (k : Kind) → IsOp a x → IsOp c y → isSide false k ≡ true → said t ws ≡ a ++ (kindWords k ++ (c ++ [])) → LineTaken named s ws (ofClock 0 (pairOf placed s k x y)) []
       relation-made a c x y Empty p q i e = absurd (false≢true i)
       relation-made a c x y (Defines k) p q i e = absurd (false≢true i)
       relation-made a c x y (Relates k) p q i e =
@@ -168,24 +194,15 @@ module _ (t : List ℕ) {S O : Type 0} (IsOp : Words → O → Type 0) (placed :
       relation-end f [] (of-await d p e) = tt
 
       module _ (c : Word) (vs : List Span) (n : isName c ≡ true) (e : said t ws ≡ c ∷ ascii "clockDef" ∷ said t vs) where
-        defined-by : (rs : Words) (r : Right O) → IsRight IsOp rs r → said t vs ≡ rs → LineTaken named s ws (ofClock (named c) (rightOf s r)) []
-        defined-by rs r p q =
-            let w : said t ws ≡ c ∷ ascii "clockDef" ∷ rs = e ∙ ap (λ (z : Words). c ∷ ascii "clockDef" ∷ z) q in
-            record { none = refl; form = defines c r; fits = rw w (clock-def n p); made = refl }
-
-        definition-made : (a d : Words) (x y : O) (k : Kind) → notAwait k ≡ true → IsOp a x → IsOp d y → isSide true k ≡ true → said t vs ≡ a ++ (kindWords k ++ (d ++ []))
-            → LineTaken named s ws (ofClock (named c) (pairOf s k x y)) []
-        definition-made a d x y Empty m p q i f = absurd (false≢true i)
-        definition-made a d x y (Relates k) m p q i f = absurd (false≢true i)
-        definition-made a d x y (Defines k) m p q i f =
-            defined-by (a ++ (kindWords (Defines k) ++ d)) (both k x y) (right-row IsOp p q k m) (f ∙ ap (λ (z : Words). a ++ (kindWords (Defines k) ++ z)) (append-nil d))
+        definition-made : (f : Formed S) → RightTaken s vs [] f → LineTaken named s ws (ofClock (named c) f) []
+        definition-made f h =
+            let w : said t ws ≡ c ∷ ascii "clockDef" ∷ h .words = e ∙ ap (λ (z : Words). c ∷ ascii "clockDef" ∷ z) (h .split ∙ append-nil (h .words)) in
+            record { none = refl; form = defines c (h .it); fits = rw w (clock-def n (h .fits)); made = ap (ofClock (named c)) (h .made) }
 
         definition-end : (f : Formed S) (us : List Span) → SideTaken s vs us f → Each (LineTaken named s ws) (atEnd true (named c) f us)
         unfolding atEnd onlyIf
         definition-end f (u ∷ us) h = tt
-        definition-end f [] (of-pair {a = a} {c = d} {x = x} {y = y} {k = k} m p q w) = each-only (LineTaken named s ws) (isSide true k) _ (λ i. definition-made a d x y k m p q i w)
-        definition-end f [] (of-await {n = ds} {a = a} {x = x} d p w) =
-            defined-by (ascii "await" ∷ ds ∷ a) (awaits (value 0 ds) x) (await d p) (w ∙ ap (λ (z : Words). ascii "await" ∷ ds ∷ z) (append-nil a))
+        definition-end f [] h = each-only (LineTaken named s ws) (isSide true (f .constraint .kind)) _ (λ i. definition-made f (right-taken s vs [] f h i))
 
       -- whatever the reader of lines reads is a form, and all of the line
       line-sound : Each (LineTaken named s ws) (lineForm t (λ w. named (bytesOf t w)) operands s ws)
@@ -215,7 +232,7 @@ module _ (t : List ℕ) {S O : Type 0} (IsOp : Words → O → Type 0) (placed :
       no-await a us (by-other {u = u} {us = vs} h k) e = first-told t Bool (is Await) false ws u (vs ++ us) e k
 
       pair-complete : (k : Kind) (a c : Words) (x y : O) (us : Words) → isKind k ≡ true → notAwait k ≡ true → IsOp a x → IsOp c y
-          → said t ws ≡ a ++ (kindWords k ++ (c ++ us)) → Took t (expression t operands s ws) (pairOf s k x y) us
+          → said t ws ≡ a ++ (kindWords k ++ (c ++ us)) → Took t (expression t operands s ws) (pairOf placed s k x y) us
       pair-complete k a c x y us i n p q e =
           let f : Took t (operands s ws) (placed s x) (kindWords k ++ (c ++ us)) = A .complete s ws a x (kindWords k ++ (c ++ us)) p e in
           let g : KindIs t (f .left) k (c ++ us) = kind-is t (f .left) k (c ++ us) i n (f .words) in
@@ -227,11 +244,11 @@ module _ (t : List ℕ) {S O : Type 0} (IsOp : Words → O → Type 0) (placed :
             words = h .words;
             took =
                 pair-some t operands s ws w (placed s x) (f .left) (f .took) (kindAt t (f .left)) refl (ap isKind (g .kind) ∙ i) (placed (placed s x .left) y) (h .left) (h .took)
-                ∙ ap (λ (z : Kind). parsed (pairOf s z x y) (h .left)) (g .kind);
+                ∙ ap (λ (z : Kind). parsed (pairOf placed s z x y) (h .left)) (g .kind);
           }
 
       await-complete : (n : Word) (a : Words) (x : O) (us : Words) → isDigits n ≡ true → IsOp a x → said t ws ≡ ascii "await" ∷ n ∷ (a ++ us)
-          → Took t (expression t operands s ws) (rightOf s (awaits (value 0 n) x)) us
+          → Took t (expression t operands s ws) (rightOf placed s (awaits (value 0 n) x)) us
       unfolding lookUp sameBytes
       await-complete n a x us d p e =
           let f : First t ws (ascii "await") (n ∷ (a ++ us)) = first-is t ws (ascii "await") (n ∷ (a ++ us)) e in
@@ -248,12 +265,12 @@ module _ (t : List ℕ) {S O : Type 0} (IsOp : Words → O → Type 0) (placed :
           }
 
       both-complete : (k : Definition) (a c : Words) (x y : O) (us : Words) → notAwait (Defines k) ≡ true → IsOp a x → IsOp c y → said t ws ≡ (a ++ (kindWords (Defines k) ++ c)) ++ us
-          → Took t (expression t operands s ws) (rightOf s (both k x y)) us
+          → Took t (expression t operands s ws) (rightOf placed s (both k x y)) us
       both-complete k a c x y us n p q e =
           pair-complete (Defines k) a c x y us refl n p q
           (e ∙ append-assoc a (kindWords (Defines k) ++ c) us ∙ ap (λ (z : Words). a ++ z) (append-assoc (kindWords (Defines k)) c us))
 
-      pub right-complete : (rs us : Words) (r : Right O) → IsRight IsOp rs r → said t ws ≡ rs ++ us → Took t (expression t operands s ws) (rightOf s r) us
+      pub right-complete : (rs us : Words) (r : Right O) → IsRight IsOp rs r → said t ws ≡ rs ++ us → Took t (expression t operands s ws) (rightOf placed s r) us
       unfolding notAwait
       right-complete rs us r (union {a = a} {b = c} {x = x} {y = y} p q) e = both-complete Union a c x y us refl p q e
       right-complete rs us r (inter {a = a} {b = c} {x = x} {y = y} p q) e = both-complete Inter a c x y us refl p q e
@@ -264,7 +281,7 @@ module _ (t : List ℕ) {S O : Type 0} (IsOp : Words → O → Type 0) (placed :
       right-complete rs us r (sampled {a = a} {b = c} {x = x} {y = y} p q) e = both-complete Sampled a c x y us refl p q e
       right-complete rs us r (upto {a = a} {b = c} {x = x} {y = y} p q) e = both-complete Upto a c x y us refl p q e
 
-    right-side : (s : S) (r : Right O) → isSide true (rightOf s r .constraint .kind) ≡ true
+    pub right-side : (s : S) (r : Right O) → isSide true (rightOf placed s r .constraint .kind) ≡ true
     right-side s (both k x y) = refl
     right-side s (awaits n x) = refl
 
@@ -286,14 +303,14 @@ module _ (t : List ℕ) {S O : Type 0} (IsOp : Words → O → Type 0) (placed :
           let f : is Name (token t ws) ≡ false = first-told t Bool (is Name) false ws u (vs ++ (kindWords (Relates k) ++ c)) e h in
           rw f
 
-      relation-complete : (k : Relation) (a c : Words) (x y : O) → IsOp a x → IsOp c y → said t ws ≡ a ++ (kindWords (Relates k) ++ c) → line ≡ parsed (formWith named s (relates k x y)) []
+      relation-complete : (k : Relation) (a c : Words) (x y : O) → IsOp a x → IsOp c y → said t ws ≡ a ++ (kindWords (Relates k) ++ c) → line ≡ parsed (formWith placed named s (relates k x y)) []
       unfolding notAwait
       relation-complete k a c x y p q e =
           line-relates t operands s ws (λ w. named (bytesOf t w)) (no-definition k a c (A .opens a x p) e)
-          ∙ closed-by false 0 (expression t operands s ws) (pairOf s (Relates k) x y) refl
+          ∙ closed-by false 0 (expression t operands s ws) (pairOf placed s (Relates k) x y) refl
           (pair-complete s ws (Relates k) a c x y [] refl refl p q (e ∙ ap (λ (z : Words). a ++ (kindWords (Relates k) ++ z)) (sym (append-nil c))))
 
-      definition-complete : (c : Word) (rs : Words) (r : Right O) → isName c ≡ true → IsRight IsOp rs r → said t ws ≡ c ∷ ascii "clockDef" ∷ rs → line ≡ parsed (formWith named s (defines c r)) []
+      definition-complete : (c : Word) (rs : Words) (r : Right O) → isName c ≡ true → IsRight IsOp rs r → said t ws ≡ c ∷ ascii "clockDef" ∷ rs → line ≡ parsed (formWith placed named s (defines c r)) []
       unfolding lookUp sameBytes
       definition-complete c rs r n p e =
           let f : First t ws c (ascii "clockDef" ∷ rs) = first-is t ws c (ascii "clockDef" ∷ rs) e in
@@ -301,12 +318,12 @@ module _ (t : List ℕ) {S O : Type 0} (IsOp : Words → O → Type 0) (placed :
           let i : is Name (token t ws) ≡ true = first-told t Bool (is Name) true ws c (ascii "clockDef" ∷ rs) e (name-is c ∙ n) in
           let j : is ClockDef (token t (rest ws)) ≡ true = first-told t Bool (is ClockDef) true (rest ws) (ascii "clockDef") rs (f .after) refl in
           line-defines t operands s ws (λ w. named (bytesOf t w)) (rw (i, j))
-          ∙ closed-by true (named (bytesOf t (front t ws))) (expression t operands s (rest (rest ws))) (rightOf s r) (right-side s r)
+          ∙ closed-by true (named (bytesOf t (front t ws))) (expression t operands s (rest (rest ws))) (rightOf placed s r) (right-side s r)
           (right-complete s (rest (rest ws)) rs [] r p (g .after ∙ sym (append-nil rs)))
-          ∙ ap (λ (u : Word). parsed (ofClock (named u) (rightOf s r)) []) (f .bytes)
+          ∙ ap (λ (u : Word). parsed (ofClock (named u) (rightOf placed s r)) []) (f .bytes)
 
       -- every form is read, as what it comes to
-      line-complete : (us : Words) (f : Form O) → IsForm IsOp us f → said t ws ≡ us → line ≡ parsed (formWith named s f) []
+      line-complete : (us : Words) (f : Form O) → IsForm IsOp us f → said t ws ≡ us → line ≡ parsed (formWith placed named s f) []
       line-complete us f (coincides {a = a} {b = c} {x = x} {y = y} p q) e = relation-complete Coincides a c x y p q e
       line-complete us f (excludes {a = a} {b = c} {x = x} {y = y} p q) e = relation-complete Excludes a c x y p q e
       line-complete us f (sub-clock {a = a} {b = c} {x = x} {y = y} p q) e = relation-complete SubClock a c x y p q e
@@ -323,7 +340,7 @@ module _ (t : List ℕ) {S O : Type 0} (IsOp : Words → O → Type 0) (placed :
 
       pub no-form-fits : (line ≡ noForm) ↔ ((f : Form O) → IsForm IsOp (said t ws) f → ⊥)
       no-form-fits = (
-        (λ e f p. let q : line ≡ parsed (formWith named s f) [] = line-complete (said t ws) f p refl in let z : _≡_ {A = ℕ} 0 1 = cc in absurd (omega arith)),
+        (λ e f p. let q : line ≡ parsed (formWith placed named s f) [] = line-complete (said t ws) f p refl in let z : _≡_ {A = ℕ} 0 1 = cc in absurd (omega arith)),
         (λ n. go line (line-sound named s ws) n),
       )
         where

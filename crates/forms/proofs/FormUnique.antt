@@ -1,9 +1,9 @@
 -- No line fits two forms: for any relation of operands in which the words in front determine the operand, since an operand's first
--- word, and the words of a kind, tell the rows apart. Assumes nothing.
-use mathlib.Core.Path.{_≡_, refl, sym, ap, subst, _∙_}
+-- word, and the words of a kind, tell the rows apart; and operands in parentheses are such a relation, level by level. Assumes nothing.
+use mathlib.Core.Path.{_≡_, refl, sym, ap, _∙_}
 use mathlib.Core.Bool.{cond, true, true≢false, false≢true}
-use mathlib.Core.List.{[], _∷_, _++_}
-use Prim.Native.Nat.{ℕ}
+use mathlib.Core.List.{[], _∷_, _++_, append-assoc, append-nil}
+use Prim.Native.Nat.{ℕ, zero, suc}
 use native.Mathlib.Omega.{arith}
 use Rattle.constraint.specs.declared.Definition.{Definition}
 use Rattle.constraint.specs.declared.Definition.the-variants.{Union, Inter, Lub, Glb, Await as AwaitKind, StrictlySampled, Sampled, Upto}
@@ -18,9 +18,10 @@ use Rattle.grammar.specs.Grammar.{strictKind, plain, isKind}
 use Rattle.grammar.specs.Tokens.{is, tokenOf, lookUp}
 use Rattle.grammar.specs.declared.Token.the-variants.{Name, Await, Strictly}
 use Rattle.grammar.proofs.KindLaws.{notAwait}
-use Rattle.forms.specs.Forms.{Word, Words, wordsOf, isName, Right, both, awaits, Form, relates, defines, IsRight, union, inter, lub, glb, await, strictly-sampled, sampled, upto, IsForm, coincides, excludes, sub-clock, strictly-precedes, precedes, clock-def, Operand, name, IsOperand, one-name, NoLineFitsTwoForms}
+use Rattle.forms.specs.Forms.{Word, Words, wordsOf, nameShape, isName, Right, both, awaits, Form, relates, defines, IsRight, union, inter, lub, glb, await, strictly-sampled, sampled, upto, IsForm, coincides, excludes, sub-clock, strictly-precedes, precedes, clock-def, Operand, name, inner, IsOperandOf, one-name, in-parentheses, IsOperand, levels, NoLineFitsTwoForms}
 use Rattle.forms.proofs.FormLaws.{Opens, by-name, by-other}
-use Rattle.forms.proofs.FormRows.{names-open}
+use Rattle.forms.proofs.FormRows.{operands-open}
+use Rattle.forms.proofs.FormShapes.{Between, RightShape, two, waits, right-shape, Shape, relation, definition, shape}
 use Rattle.forms.proofs.WordLaws.{kindWords, name-is}
 
 -- the kind that the first words say
@@ -50,9 +51,9 @@ cancel : (ks us vs : Words) → ks ++ us ≡ ks ++ vs → us ≡ vs
 cancel [] us vs e = e
 cancel (k ∷ ks) us vs e = let q : ks ++ us ≡ ks ++ vs = cc in cancel ks us vs q
 
-kind-opened : (k : Kind) (c : Words) → Opens c → isKind k ≡ true → notAwait k ≡ true → kindOf (kindWords k ++ c) ≡ k
-kind-opened k c (by-name {n = n} h) i m = kind-of k n [] i m
-kind-opened k c (by-other {u = u} {us = us} h g) i m = kind-of k u us i m
+kind-opened : (k : Kind) (c us : Words) → Opens c → isKind k ≡ true → notAwait k ≡ true → kindOf (kindWords k ++ (c ++ us)) ≡ k
+kind-opened k c us (by-name {n = n} h) i m = kind-of k n us i m
+kind-opened k c us (by-other {u = u} {us = vs} h g) i m = kind-of k u (vs ++ us) i m
 
 def-kind : (us : Words) → kindOf (ascii "clockDef" ∷ us) ≡ Empty
 unfolding lookUp sameBytes
@@ -61,95 +62,60 @@ def-kind (u ∷ us) = refl
 
 module _ (O : Type 0) (IsOp : Words → O → Type 0) (opens : (a : Words) (x : O) → IsOp a x → Opens a)
     (one : (a c us vs : Words) (x y : O) → IsOp a x → IsOp c y → a ++ us ≡ c ++ vs → (x ≡ y) × (us ≡ vs)) where
-  -- two operands with a kind between them
-  record Between (k : Kind) (x y : O) (us : Words) : Type 0 where
-    a : Words
-    c : Words
-    first : IsOp a x
-    second : IsOp c y
-    kind : isKind k ≡ true
-    plainly : notAwait k ≡ true
-    words : us ≡ a ++ (kindWords k ++ c)
+  -- with whatever words behind it
+  onward : (k : Kind) (x y : O) (ws us : Words) (p : Between O IsOp k x y ws) → ws ++ us ≡ p .a ++ (kindWords k ++ (p .c ++ us))
+  onward k x y ws us p = ap (λ (z : Words). z ++ us) (p .words) ∙ append-assoc (p .a) (kindWords k ++ p .c) us ∙ ap (λ (z : Words). p .a ++ z) (append-assoc (kindWords k) (p .c) us)
 
-  one-pair : (us : Words) (k j : Kind) (x y v w : O) → Between k x y us → Between j v w us → (k ≡ j) × (x ≡ v) × (y ≡ w)
-  one-pair us k j x y v w p q =
-      let f = one (p .a) (q .a) (kindWords k ++ p .c) (kindWords j ++ q .c) x v (p .first) (q .first) (sym (p .words) ∙ q .words) in
-      let g : k ≡ j = sym (kind-opened k (p .c) (opens (p .c) y (p .second)) (p .kind) (p .plainly)) ∙ ap kindOf (f .1) ∙ kind-opened j (q .c) (opens (q .c) w (q .second)) (q .kind) (q .plainly) in
-      let h : kindWords j ++ p .c ≡ kindWords j ++ q .c = ap (λ (z : Kind). kindWords z ++ p .c) (sym g) ∙ f .1 in
-      let s : p .c ++ [] ≡ q .c ++ [] = ap (λ (z : Words). z ++ []) (cancel (kindWords j) (p .c) (q .c) h) in
-      (g, f .0, one (p .c) (q .c) [] [] y w (p .second) (q .second) s .0)
-
-  -- a right side, as one of two shapes
-  data RightShape (us : Words) : Right O → Type 0 where
-    two : {k : Definition} {x y : O} → Between (Defines k) x y us → RightShape us (both k x y)
-    waits : {n : Word} {a : Words} {x : O} → IsOp a x → us ≡ ascii "await" ∷ n ∷ a → RightShape us (awaits (value 0 n) x)
-
-  between : (k : Kind) (a c : Words) (x y : O) → isKind k ≡ true → notAwait k ≡ true → IsOp a x → IsOp c y → Between k x y (a ++ (kindWords k ++ c))
-  between k a c x y i n p q = record { a = a; c = c; first = p; second = q; kind = i; plainly = n; words = refl }
-
-  right-shape : (us : Words) (r : Right O) → IsRight IsOp us r → RightShape us r
-  unfolding notAwait
-  right-shape us r (union {a = a} {b = c} {x = x} {y = y} p q) = two (between (Defines Union) a c x y refl refl p q)
-  right-shape us r (inter {a = a} {b = c} {x = x} {y = y} p q) = two (between (Defines Inter) a c x y refl refl p q)
-  right-shape us r (lub {a = a} {b = c} {x = x} {y = y} p q) = two (between (Defines Lub) a c x y refl refl p q)
-  right-shape us r (glb {a = a} {b = c} {x = x} {y = y} p q) = two (between (Defines Glb) a c x y refl refl p q)
-  right-shape us r (await {n = n} {a = a} {x = x} d p) = waits p refl
-  right-shape us r (strictly-sampled {a = a} {b = c} {x = x} {y = y} p q) = two (between (Defines StrictlySampled) a c x y refl refl p q)
-  right-shape us r (sampled {a = a} {b = c} {x = x} {y = y} p q) = two (between (Defines Sampled) a c x y refl refl p q)
-  right-shape us r (upto {a = a} {b = c} {x = x} {y = y} p q) = two (between (Defines Upto) a c x y refl refl p q)
+  one-pair : (ws vs us zs : Words) (k j : Kind) (x y v w : O) → Between O IsOp k x y ws → Between O IsOp j v w vs → ws ++ us ≡ vs ++ zs → (k ≡ j) × (x ≡ v) × (y ≡ w) × (us ≡ zs)
+  one-pair ws vs us zs k j x y v w p q e =
+      let f = one (p .a) (q .a) (kindWords k ++ (p .c ++ us)) (kindWords j ++ (q .c ++ zs)) x v (p .first) (q .first) (sym (onward k x y ws us p) ∙ e ∙ onward j v w vs zs q) in
+      let g : k ≡ j = sym (kind-opened k (p .c) us (opens (p .c) y (p .second)) (p .kind) (p .plainly)) ∙ ap kindOf (f .1) ∙ kind-opened j (q .c) zs (opens (q .c) w (q .second)) (q .kind) (q .plainly) in
+      let h : kindWords j ++ (p .c ++ us) ≡ kindWords j ++ (q .c ++ zs) = ap (λ (z : Kind). kindWords z ++ (p .c ++ us)) (sym g) ∙ f .1 in
+      let s = one (p .c) (q .c) us zs y w (p .second) (q .second) (cancel (kindWords j) (p .c ++ us) (q .c ++ zs) h) in
+      (g, f .0, s .0, s .1)
 
   await-opens : (a us vs : Words) → Opens a → a ++ us ≡ ascii "await" ∷ vs → ⊥
   unfolding lookUp sameBytes
   await-opens a us vs (by-name {n = n} h) e = let q : n ≡ ascii "await" = cc in false≢true (ap (λ u. is Name (tokenOf u)) (sym q) ∙ name-is n ∙ h)
   await-opens a us vs (by-other {u = u} {us = ws} h k) e = let q : u ≡ ascii "await" = cc in true≢false (ap (λ u. is Await (tokenOf u)) (sym q) ∙ k)
 
-  shapes-same : (us : Words) (r s : Right O) → RightShape us r → RightShape us s → r ≡ s
-  shapes-same us r s (two {k = k} {x = x} {y = y} p) (two {k = j} {x = v} {y = w} q) =
-      let f = one-pair us (Defines k) (Defines j) x y v w p q in
-      let e : k ≡ j = cc (f .0) in
-      λ i. both (e i) (f .1 i) (f .2 i)
-  shapes-same us r s (two {k = k} {x = x} {y = y} p) (waits {n = n} {a = a} q e) =
-      absurd (await-opens (p .a) (kindWords (Defines k) ++ p .c) (n ∷ a) (opens (p .a) x (p .first)) (sym (p .words) ∙ e))
-  shapes-same us r s (waits {n = n} {a = a} p e) (two {k = k} {x = x} {y = y} q) =
-      absurd (await-opens (q .a) (kindWords (Defines k) ++ q .c) (n ∷ a) (opens (q .a) x (q .first)) (sym (q .words) ∙ e))
-  shapes-same us r s (waits {n = n} {a = a} {x = x} p e) (waits {n = m} {a = c} {x = y} q f) =
-      let g : n ≡ m = cc in
-      let h : a ≡ c = cc in
-      let o : x ≡ y = one a c [] [] x y p q (ap (λ (z : Words). z ++ []) h) .0 in
-      λ i. awaits (value 0 (g i)) (o i)
+  module _ (ws vs us zs : Words) (e : ws ++ us ≡ vs ++ zs) where
+    shapes-same : (r s : Right O) → RightShape O IsOp ws r → RightShape O IsOp vs s → (r ≡ s) × (us ≡ zs)
+    shapes-same r s (two {k = k} {x = x} {y = y} p) (two {k = j} {x = v} {y = w} q) =
+        let f = one-pair ws vs us zs (Defines k) (Defines j) x y v w p q e in
+        let d : k ≡ j = cc (f .0) in
+        (λ i. both (d i) (f .1 i) (f .2 i), f .3)
+    shapes-same r s (two {k = k} {x = x} {y = y} p) (waits {n = n} {a = a} b q h) =
+        absurd (await-opens (p .a) (kindWords (Defines k) ++ (p .c ++ us)) (n ∷ (a ++ zs)) (opens (p .a) x (p .first)) (sym (onward (Defines k) x y ws us p) ∙ e ∙ ap (λ (z : Words). z ++ zs) h))
+    shapes-same r s (waits {n = n} {a = a} b p h) (two {k = k} {x = x} {y = y} q) =
+        absurd (await-opens (q .a) (kindWords (Defines k) ++ (q .c ++ zs)) (n ∷ (a ++ us)) (opens (q .a) x (q .first)) (sym (onward (Defines k) x y vs zs q) ∙ sym e ∙ ap (λ (z : Words). z ++ us) h))
+    shapes-same r s (waits {n = n} {a = a} {x = x} b p h) (waits {n = m} {a = c} {x = y} t q g) =
+        let d : ascii "await" ∷ n ∷ (a ++ us) ≡ ascii "await" ∷ m ∷ (c ++ zs) = ap (λ (z : Words). z ++ us) (sym h) ∙ e ∙ ap (λ (z : Words). z ++ zs) g in
+        let i : n ≡ m = cc in
+        let j : a ++ us ≡ c ++ zs = cc in
+        let o = one a c us zs x y p q j in
+        (λ k. awaits (value 0 (i k)) (o .0 k), o .1)
 
-  pub one-right : (us : Words) (r s : Right O) → IsRight IsOp us r → IsRight IsOp us s → r ≡ s
-  one-right us r s p q = shapes-same us r s (right-shape us r p) (right-shape us s q)
+    -- the words in front determine a right side
+    pub front-right : (r s : Right O) → IsRight IsOp ws r → IsRight IsOp vs s → (r ≡ s) × (us ≡ zs)
+    front-right r s p q = shapes-same r s (right-shape O IsOp ws r p) (right-shape O IsOp vs s q)
 
-  data Shape (us : Words) : Form O → Type 0 where
-    relation : {k : Relation} {x y : O} → Between (Relates k) x y us → Shape us (relates k x y)
-    definition : {c : Word} {rs : Words} {r : Right O} → isName c ≡ true → IsRight IsOp rs r → us ≡ c ∷ ascii "clockDef" ∷ rs → Shape us (defines c r)
-
-  shape : (us : Words) (f : Form O) → IsForm IsOp us f → Shape us f
-  unfolding notAwait
-  shape us f (coincides {a = a} {b = c} {x = x} {y = y} p q) = relation (between (Relates Coincides) a c x y refl refl p q)
-  shape us f (excludes {a = a} {b = c} {x = x} {y = y} p q) = relation (between (Relates Excludes) a c x y refl refl p q)
-  shape us f (sub-clock {a = a} {b = c} {x = x} {y = y} p q) = relation (between (Relates SubClock) a c x y refl refl p q)
-  shape us f (strictly-precedes {a = a} {b = c} {x = x} {y = y} p q) = relation (between (Relates StrictlyPrecedes) a c x y refl refl p q)
-  shape us f (precedes {a = a} {b = c} {x = x} {y = y} p q) = relation (between (Relates Precedes) a c x y refl refl p q)
-  shape us f (clock-def n p) = definition n p refl
-
-  never-both : (k : Relation) (x y : O) (us rs : Words) (c : Word) → Between (Relates k) x y us → isName c ≡ true → us ≡ c ∷ ascii "clockDef" ∷ rs → ⊥
+  never-both : (k : Relation) (x y : O) (us rs : Words) (c : Word) → Between O IsOp (Relates k) x y us → isName c ≡ true → us ≡ c ∷ ascii "clockDef" ∷ rs → ⊥
   never-both k x y us rs c p n e = go (p .a) (opens (p .a) x (p .first)) (sym (p .words) ∙ e)
     where
       go : (a : Words) → Opens a → a ++ (kindWords (Relates k) ++ p .c) ≡ c ∷ ascii "clockDef" ∷ rs → ⊥
       go a (by-name {n = m} h) q =
           let s : kindWords (Relates k) ++ p .c ≡ ascii "clockDef" ∷ rs = cc in
-          let r : Relates k ≡ Empty = sym (kind-opened (Relates k) (p .c) (opens (p .c) y (p .second)) (p .kind) (p .plainly)) ∙ ap kindOf s ∙ def-kind rs in
+          let r : Relates k ≡ Empty = sym (kind-opened (Relates k) (p .c) [] (opens (p .c) y (p .second)) (p .kind) (p .plainly)) ∙ ap (λ (z : Words). kindOf (kindWords (Relates k) ++ z)) (append-nil (p .c)) ∙ ap kindOf s ∙ def-kind rs in
           let z : _≡_ {A = ℕ} 0 1 = cc in omega arith
       go a (by-other {u = u} {us = us} h m) q = let s : u ≡ c = cc in true≢false (sym (name-is c ∙ n) ∙ ap (λ v. is Name (tokenOf v)) (sym s) ∙ h)
 
   pub one-form : (us : Words) (f g : Form O) → IsForm IsOp us f → IsForm IsOp us g → f ≡ g
-  one-form us f g p q = go f g (shape us f p) (shape us g q)
+  one-form us f g p q = go f g (shape O IsOp us f p) (shape O IsOp us g q)
     where
-      go : (f g : Form O) → Shape us f → Shape us g → f ≡ g
+      go : (f g : Form O) → Shape O IsOp us f → Shape O IsOp us g → f ≡ g
       go f g (relation {k = k} {x = x} {y = y} p) (relation {k = j} {x = v} {y = w} q) =
-          let h = one-pair us (Relates k) (Relates j) x y v w p q in
+          let h = one-pair us us [] [] (Relates k) (Relates j) x y v w p q refl in
           let e : k ≡ j = cc (h .0) in
           λ i. relates (e i) (h .1 i) (h .2 i)
       go f g (relation {k = k} {x = x} {y = y} p) (definition {c = c} {rs = rs} n q e) = absurd (never-both k x y us rs c p n e)
@@ -157,18 +123,35 @@ module _ (O : Type 0) (IsOp : Words → O → Type 0) (opens : (a : Words) (x : 
       go f g (definition {c = c} {rs = rs} {r = r} n p e) (definition {c = d} {rs = ss} {r = s} m q h) =
           let u : c ≡ d = cc in
           let v : rs ≡ ss = cc in
-          let w : r ≡ s = one-right ss r s (subst (λ (z : Words). IsRight IsOp z r) v p) q in
+          let w : r ≡ s = front-right rs ss [] [] (ap (λ (z : Words). z ++ []) v) r s p q .0 in
           λ i. defines (u i) (w i)
 
--- ---- of names
-one-operand : (a c us vs : Words) (x y : Operand) → IsOperand a x → IsOperand c y → a ++ us ≡ c ++ vs → (x ≡ y) × (us ≡ vs)
-one-operand a c us vs x y (one-name {n = n} p) (one-name {n = m} q) e =
-    let f : n ≡ m = cc in
-    let g : us ≡ vs = cc in
-    (ap name f, g)
+-- ---- operands, level by level
+module _ (Side : Words → Right Operand → Type 0) (one : (ws vs us zs : Words) (r s : Right Operand) → Side ws r → Side vs s → ws ++ us ≡ vs ++ zs → (r ≡ s) × (us ≡ zs)) where
+  not-open : (n : Word) (us vs : Words) → isName n ≡ true → n ∷ us ≡ ascii "(" ∷ vs → ⊥
+  unfolding nameShape
+  not-open n us vs h e = let q : n ≡ ascii "(" = cc in false≢true (ap isName (sym q) ∙ h)
 
-pub one-form-of-names : (us : Words) (f g : Form Operand) → IsForm IsOperand us f → IsForm IsOperand us g → f ≡ g
-one-form-of-names = one-form Operand IsOperand names-open one-operand
+  one-inside : (a c us vs : Words) (x y : Operand) → IsOperandOf Side a x → IsOperandOf Side c y → a ++ us ≡ c ++ vs → (x ≡ y) × (us ≡ vs)
+  one-inside a c us vs x y (one-name {n = n} p) (one-name {n = m} q) e =
+      let f : n ≡ m = cc in
+      let g : us ≡ vs = cc in
+      (ap name f, g)
+  one-inside a c us vs x y (one-name {n = n} p) (in-parentheses {ws = ws} q) e = absurd (not-open n us _ p e)
+  one-inside a c us vs x y (in-parentheses {ws = ws} p) (one-name {n = n} q) e = absurd (not-open n vs _ q (sym e))
+  one-inside a c us vs x y (in-parentheses {ws = ws} {r = r} p) (in-parentheses {ws = zs} {r = s} q) e =
+      let d : (ws ++ ascii ")" ∷ []) ++ us ≡ (zs ++ ascii ")" ∷ []) ++ vs = cc in
+      let f = one ws zs (ascii ")" ∷ us) (ascii ")" ∷ vs) r s p q (sym (append-assoc ws (ascii ")" ∷ []) us) ∙ d ∙ append-assoc zs (ascii ")" ∷ []) vs) in
+      let g : us ≡ vs = cc (f .1) in
+      (ap inner (f .0), g)
+
+one-operand : (n : ℕ) (a c us vs : Words) (x y : Operand) → IsOperand n a x → IsOperand n c y → a ++ us ≡ c ++ vs → (x ≡ y) × (us ≡ vs)
+unfolding IsOperand
+one-operand zero = one-inside (λ ws r. ⊥) (λ ws vs us zs r s p q e. absurd p)
+one-operand (suc n) = one-inside (IsRight (IsOperand n)) (λ ws vs us zs r s p q e. front-right Operand (IsOperand n) (operands-open n) (one-operand n) ws vs us zs e r s p q)
+
+pub one-form-of : (n : ℕ) (us : Words) (f g : Form Operand) → IsForm (IsOperand n) us f → IsForm (IsOperand n) us g → f ≡ g
+one-form-of n = one-form Operand (IsOperand n) (operands-open n) (one-operand n)
 
 pub no-line-fits-two-forms : NoLineFitsTwoForms
-no-line-fits-two-forms l = one-form-of-names (wordsOf l)
+no-line-fits-two-forms l = one-form-of levels (wordsOf l)

@@ -4,7 +4,9 @@ pub mod ClockNames
 pub mod FormLaws
 pub mod FormNames
 pub mod FormRows
+pub mod FormShapes
 pub mod FormUnique
+pub mod FormWords
 pub mod Said
 pub mod SomeLaws
 pub mod SplitWords

@@ -19,7 +19,7 @@ use Rattle.text.proofs.Bytes.{same-equal}
 use Rattle.grammar.specs.Grammar.{plain, strictKind, isKind}
 use Rattle.grammar.specs.Tokens.{is, Spelled, _says_, shapeOf, lookUp, formWords, tokenOf}
 use Rattle.grammar.specs.declared.Token.{Token}
-use Rattle.grammar.specs.declared.Token.the-variants.{End, Other, Name, Digits, ClockDef, Await, Strictly}
+use Rattle.grammar.specs.declared.Token.the-variants.{End, Other, Name, Digits, ClockDef, Await, Strictly, Open, Close}
 use Rattle.grammar.proofs.TokenLaws.{allSpelled, look-all, shape-all}
 use Rattle.forms.specs.Forms.{Word, Words, oneOf, formWords as listedWords, nameShape, isName, isDigits}
 
@@ -101,6 +101,14 @@ await-word = word-said Await (ascii "await") refl refl refl refl refl
 pub strictly-word : (w : Word) → is Strictly (tokenOf w) ≡ true → w ≡ ascii "strictly"
 unfolding sameBytes
 strictly-word = word-said Strictly (ascii "strictly") refl refl refl refl refl
+
+pub open-word : (w : Word) → is Open (tokenOf w) ≡ true → w ≡ ascii "("
+unfolding sameBytes
+open-word = word-said Open (ascii "(") refl refl refl refl refl
+
+pub close-word : (w : Word) → is Close (tokenOf w) ≡ true → w ≡ ascii ")"
+unfolding sameBytes
+close-word = word-said Close (ascii ")") refl refl refl refl refl
 
 -- ---- digit runs
 shape-digits : (w : Word) → is Digits (shapeOf w) ≡ isDigits w

@@ -1,9 +1,9 @@
--- The forms of a table's lines, apart from any reader: document 01, "Table text", row by row. A line is a list of bytes, and so is a word.
--- Assumes nothing.
+-- The forms of a table's lines, apart from any reader: document 01, "Table text", row by row, and operands in parentheses (document 02, M-101).
+-- A line is a list of bytes, and so is a word. Assumes nothing.
 use mathlib.Core.Path.{_≡_, refl}
 use mathlib.Core.Bool.{Bool, true, false, not, cond, _&&_, _||_}
 use mathlib.Core.List.{List, [], _∷_, _++_}
-use Prim.Native.Nat.{ℕ}
+use Prim.Native.Nat.{ℕ, zero, suc}
 use lib.Dec.{eqb}
 use Rattle.constraint.specs.declared.Definition.{Definition}
 use Rattle.constraint.specs.declared.Definition.the-variants.{Union, Inter, Lub, Glb, StrictlySampled, Sampled, Upto}
@@ -46,7 +46,7 @@ nonempty ((b ∷ bs) ∷ ps) = (b ∷ bs) ∷ nonempty ps
 abbrev pub linesOf : List ℕ → List Line
 linesOf t = parts (λ b. eqb b 10) (λ b. false) t
 
--- words by one or more spaces; spaces at a line's ends mean nothing. A parenthesis is a word by itself; no form has one
+-- words by one or more spaces; spaces at a line's ends mean nothing. A parenthesis is a word by itself
 abbrev pub wordsOf : Line → Words
 wordsOf l = nonempty (parts (λ b. eqb b 32) (λ b. eqb b 40 || eqb b 41) l)
 
@@ -59,7 +59,7 @@ oneOf (u ∷ us) w = sameBytes w u || oneOf us w
 abbrev pub formWords : Words
 formWords =
     ascii "=" ∷ ascii "#" ∷ ascii "isSubClockOf" ∷ ascii "strictly" ∷ ascii "precedes" ∷ ascii "clockDef" ∷ ascii "clockUnion" ∷ ascii "clockInter" ∷
-    ascii "lub" ∷ ascii "glb" ∷ ascii "await" ∷ ascii "sampled" ∷ ascii "upto" ∷ []
+    ascii "lub" ∷ ascii "glb" ∷ ascii "await" ∷ ascii "sampled" ∷ ascii "upto" ∷ ascii "(" ∷ ascii ")" ∷ []
 
 -- a letter, then letters, digits or underscores
 unfoldable pub nameShape : Word → Bool
@@ -105,17 +105,33 @@ pub data IsForm {O : Type 0} (Operand : Words → O → Type 0) : Words → Form
   precedes : {a b : Words} {x y : O} → Operand a x → Operand b y → IsForm Operand (a ++ ascii "precedes" ∷ b) (relates Precedes x y)
   clock-def : {c : Word} {ws : Words} {r : Right O} → isName c ≡ true → IsRight Operand ws r → IsForm Operand (c ∷ ascii "clockDef" ∷ ws) (defines c r)
 
--- ---- operands: one name
+-- ---- operands: a name, or a right side in parentheses, which uses up one of the levels that are left
 
 pub data Operand : Type 0 where
   name : Word → Operand
+  both-inside : Definition → Operand → Operand → Operand
+  awaits-inside : ℕ → Operand → Operand
 
-pub data IsOperand : Words → Operand → Type 0 where
-  one-name : {n : Word} → isName n ≡ true → IsOperand (n ∷ []) (name n)
+-- a right side in parentheses
+abbrev pub inner : Right Operand → Operand
+inner (both k x y) = both-inside k x y
+inner (awaits n x) = awaits-inside n x
+
+pub data IsOperandOf (Side : Words → Right Operand → Type 0) : Words → Operand → Type 0 where
+  one-name : {n : Word} → isName n ≡ true → IsOperandOf Side (n ∷ []) (name n)
+  in-parentheses : {ws : Words} {r : Right Operand} → Side ws r → IsOperandOf Side (ascii "(" ∷ (ws ++ ascii ")" ∷ [])) (inner r)
+
+unfoldable pub IsOperand : (levels : ℕ) → Words → Operand → Type 0
+IsOperand zero = IsOperandOf (λ ws r. ⊥)
+IsOperand (suc n) = IsOperandOf (IsRight (IsOperand n))
+
+-- no line is nested yet
+abbrev pub levels : ℕ
+levels = 0
 
 -- a line has a form
 abbrev pub HasForm : Line → Form Operand → Type 0
-HasForm l f = IsForm IsOperand (wordsOf l) f
+HasForm l f = IsForm (IsOperand levels) (wordsOf l) f
 
 -- the claim: no line fits two forms
 abbrev pub NoLineFitsTwoForms : Type 0
@@ -136,5 +152,11 @@ unfolding nameShape oneOf allBytes sameBytes
 no-name = refl
 
 an-await : HasForm (ascii "c clockDef await 007 a") (defines (ascii "c") (awaits 7 (name (ascii "a"))))
-unfolding parts grow nonempty nameShape oneOf isDigits allBytes sameBytes value
+unfolding IsOperand parts grow nonempty nameShape oneOf isDigits allBytes sameBytes value
 an-await = clock-def refl (await refl (one-name refl))
+
+-- a line of the second course, at two levels
+a-nested-line : IsForm (IsOperand 2) (wordsOf (ascii "((a clockUnion b)upto c) precedes d"))
+    (relates Precedes (inner (both Upto (inner (both Union (name (ascii "a")) (name (ascii "b")))) (name (ascii "c")))) (name (ascii "d")))
+unfolding IsOperand parts grow nonempty nameShape oneOf allBytes sameBytes
+a-nested-line = precedes (in-parentheses (upto (in-parentheses (union (one-name refl) (one-name refl))) (one-name refl))) (one-name refl)

@@ -2,7 +2,7 @@
 -- checked", 11 to 18 each a row over the text alone; and the records of a table that breaks nothing. Assumes nothing.
 use mathlib.Core.Path.{_≡_, refl}
 use mathlib.Core.Bool.{false, cond, _&&_}
-use mathlib.Core.List.{List, [], _∷_, _++_}
+use mathlib.Core.List.{List, [], _∷_, _++_, map}
 use Prim.Native.Nat.{ℕ, suc, _+_, _≤_, _<_}
 use lib.Dec.{leb}
 use lib.ListN.{length}
@@ -10,21 +10,28 @@ use Rattle.limit.specs.Limit.{numberOf}
 use Rattle.limit.specs.declared.Limit.{Limit}
 use Rattle.limit.specs.declared.Limit.the-variants.{TableLength, LineByte, LineForm, NameLength, AwaitNumber, ClockTwice, DefinedTwice, TableClocks, TableConstraints}
 use Rattle.constraint.specs.declared.Constraint.{Constraint}
-use Rattle.constraint.specs.declared.Definition.the-variants.{Await}
+use Rattle.constraint.specs.declared.Definition.the-variants.{Union, Await, Upto}
 use Rattle.constraint.specs.declared.Kind.the-variants.{Relates, Defines}
+use Rattle.constraint.specs.declared.Relation.the-variants.{Precedes}
 use Rattle.text.specs.Ascii.{ascii}
 use Rattle.text.specs.Bytes.{allBytes, sameBytes}
-use Rattle.forms.specs.Forms.{Word, Words, Line, grow, parts, nonempty, linesOf, wordsOf, oneOf, nameShape, isName, Right, both, awaits, Form, relates, defines, Operand, name, HasForm}
+use Rattle.forms.specs.Forms.{Word, Words, Line, grow, parts, nonempty, linesOf, wordsOf, oneOf, nameShape, isName, Right, both, awaits, Form, relates, defines, Operand, name, both-inside, awaits-inside, inner, HasForm}
 
--- ---- what is counted of a line: its names, and its constraints
+-- ---- what is counted of a line: its names, its pairs of parentheses, and its constraints
 
 unfoldable pub namesIn : Words → Words
 namesIn [] = []
 namesIn (w ∷ ws) = cond (isName w) (w ∷ namesIn ws) (namesIn ws)
 
+-- of a line in which each parenthesis has its partner
+unfoldable pub pairsIn : Words → ℕ
+pairsIn [] = 0
+pairsIn (w ∷ ws) = cond (sameBytes w (ascii "(")) (suc (pairsIn ws)) (pairsIn ws)
+
+-- each pair of parentheses is an implicit clock with a definition, which stands before the line's own constraint
 unfoldable pub constraintsIn : Words → ℕ
 constraintsIn [] = 0
-constraintsIn (w ∷ ws) = 1
+constraintsIn (w ∷ ws) = suc (pairsIn (w ∷ ws))
 
 -- the names so far, and those of some words that are new, in the order of first appearance
 unfoldable pub withNames : Words → Words → Words
@@ -39,18 +46,27 @@ withLines ns (l ∷ ls) = withLines (withNames ns (namesIn (wordsOf l))) ls
 abbrev pub clockNames : List Line → Words
 clockNames ls = withLines [] ls
 
+unfoldable pub pairs : List Line → ℕ
+pairs [] = 0
+pairs (l ∷ ls) = pairsIn (wordsOf l) + pairs ls
+
+-- named clocks and implicit ones
 abbrev pub clocks : List Line → ℕ
-clocks ls = length (clockNames ls)
+clocks ls = length (clockNames ls) + pairs ls
 
 unfoldable pub constraints : List Line → ℕ
 constraints [] = 0
 constraints (l ∷ ls) = constraintsIn (wordsOf l) + constraints ls
 
--- the await numbers of a form
+-- the await numbers of a form, inner ones too
+abbrev pub operandNumbers : Operand → List ℕ
+operandNumbers (name w) = []
+operandNumbers (both-inside k x y) = operandNumbers x ++ operandNumbers y
+operandNumbers (awaits-inside n x) = n ∷ operandNumbers x
+
 abbrev pub awaitNumbers : Form Operand → List ℕ
-awaitNumbers (relates k x y) = []
-awaitNumbers (defines c (both k x y)) = []
-awaitNumbers (defines c (awaits n x)) = n ∷ []
+awaitNumbers (relates k x y) = operandNumbers x ++ operandNumbers y
+awaitNumbers (defines c r) = operandNumbers (inner r)
 
 -- ---- what a line breaks, below the lines above it. A line without words can break 11 alone
 
@@ -115,21 +131,62 @@ unfoldable pub standing : Words → Word → ℕ
 standing [] w = 0
 standing (n ∷ ns) w = cond (sameBytes n w) 0 (suc (standing ns w))
 
-abbrev pub clockOf : Words → Operand → ℕ
-clockOf ns (name w) = standing ns w
+-- how many implicit clocks an operand, a right side and a form have: one for each right side in parentheses
+abbrev pub implicits : Operand → ℕ
+implicits (name w) = 0
+implicits (both-inside k x y) = suc (implicits x + implicits y)
+implicits (awaits-inside n x) = suc (implicits x)
 
--- fields that a form does not use are 0
-abbrev pub recordOf : Words → (line : ℕ) → Form Operand → Constraint
-recordOf ns n (relates k x y) = record { kind = Relates k; defined = 0; first = clockOf ns x; second = clockOf ns y; parameter = record { 0 = 0 }; line = record { 0 = n } }
-recordOf ns n (defines c (both k x y)) = record { kind = Defines k; defined = standing ns c; first = clockOf ns x; second = clockOf ns y; parameter = record { 0 = 0 }; line = record { 0 = n } }
-recordOf ns n (defines c (awaits m x)) = record { kind = Defines Await; defined = standing ns c; first = clockOf ns x; second = 0; parameter = record { 0 = m }; line = record { 0 = n } }
+abbrev pub sideImplicits : Right Operand → ℕ
+sideImplicits (both k x y) = implicits x + implicits y
+sideImplicits (awaits n x) = implicits x
 
--- of lines of which the first has the number n
-pub data Recorded (ns : Words) : (n : ℕ) → List Line → List Constraint → Type 0 where
-  no-line : {n : ℕ} → Recorded ns n [] []
-  blank : {n : ℕ} {l : Line} {ls : List Line} {rs : List Constraint} → wordsOf l ≡ [] → Recorded ns (n + 1) ls rs → Recorded ns n (l ∷ ls) rs
-  formed : {n : ℕ} {l : Line} {f : Form Operand} {ls : List Line} {rs : List Constraint}
-      → HasForm l f → Recorded ns (n + 1) ls rs → Recorded ns n (l ∷ ls) (recordOf ns n f ∷ rs)
+abbrev pub formImplicits : Form Operand → ℕ
+formImplicits (relates k x y) = implicits x + implicits y
+formImplicits (defines c r) = sideImplicits r
+
+-- of names ns, where the first implicit clock has the number `from`, on line n. Fields that a form does not use are 0
+module _ (ns : Words) (from n : ℕ) where
+  -- the clock of an operand, k implicit clocks standing before it: a name's, or that of the implicit clock which follows those within it
+  abbrev pub clockOf : (k : ℕ) → Operand → ℕ
+  clockOf k (name w) = standing ns w
+  clockOf k (both-inside d x y) = from + (k + (implicits x + implicits y))
+  clockOf k (awaits-inside m x) = from + (k + implicits x)
+
+  -- the record of a right side that defines the clock c
+  abbrev pub sideRecord : (k c : ℕ) → Right Operand → Constraint
+  sideRecord k c (both d x y) = record { kind = Defines d; defined = c; first = clockOf k x; second = clockOf (k + implicits x) y; parameter = record { 0 = 0 }; line = record { 0 = n } }
+  sideRecord k c (awaits m x) = record { kind = Defines Await; defined = c; first = clockOf k x; second = 0; parameter = record { 0 = m }; line = record { 0 = n } }
+
+  -- the definitions of an operand's implicit clocks: left before right, inner before outer
+  abbrev pub operandRecords : (k : ℕ) → Operand → List Constraint
+  operandRecords k (name w) = []
+  operandRecords k (both-inside d x y) = (operandRecords k x ++ operandRecords (k + implicits x) y) ++ sideRecord k (clockOf k (both-inside d x y)) (both d x y) ∷ []
+  operandRecords k (awaits-inside m x) = operandRecords k x ++ sideRecord k (clockOf k (awaits-inside m x)) (awaits m x) ∷ []
+
+  abbrev pub sideRecords : (k : ℕ) → Right Operand → List Constraint
+  sideRecords k (both d x y) = operandRecords k x ++ operandRecords (k + implicits x) y
+  sideRecords k (awaits m x) = operandRecords k x
+
+  -- those of a form, and its own behind them
+  abbrev pub formRecords : (k : ℕ) → Form Operand → List Constraint
+  formRecords k (relates j x y) = operandRecords k x ++ operandRecords (k + implicits x) y
+  formRecords k (defines c r) = sideRecords k r
+
+  abbrev pub ownRecord : (k : ℕ) → Form Operand → Constraint
+  ownRecord k (relates j x y) = record { kind = Relates j; defined = 0; first = clockOf k x; second = clockOf (k + implicits x) y; parameter = record { 0 = 0 }; line = record { 0 = n } }
+  ownRecord k (defines c r) = sideRecord k (standing ns c) r
+
+  abbrev pub recordsOf : (k : ℕ) → Form Operand → List Constraint
+  recordsOf k f = formRecords k f ++ ownRecord k f ∷ []
+
+-- of lines of which the first has the number n, k implicit clocks standing in the lines above them: implicit clocks have their numbers behind
+-- all names
+pub data Recorded (ns : Words) : (n k : ℕ) → List Line → List Constraint → Type 0 where
+  no-line : {n k : ℕ} → Recorded ns n k [] []
+  blank : {n k : ℕ} {l : Line} {ls : List Line} {rs : List Constraint} → wordsOf l ≡ [] → Recorded ns (n + 1) k ls rs → Recorded ns n k (l ∷ ls) rs
+  formed : {n k : ℕ} {l : Line} {f : Form Operand} {ls : List Line} {rs : List Constraint}
+      → HasForm l f → Recorded ns (n + 1) (k + formImplicits f) ls rs → Recorded ns n k (l ∷ ls) (recordsOf ns (length ns) n k f ++ rs)
 
 -- ---- the clocks of two lines, by first appearance; the constraints of three, one of them blank
 
@@ -138,5 +195,20 @@ unfolding withLines withNames namesIn parts grow nonempty nameShape oneOf allByt
 three-clocks = refl
 
 two-constraints : constraints (ascii "b = a" ∷ ascii "  " ∷ ascii "a # b" ∷ []) ≡ 2
-unfolding constraints constraintsIn parts grow nonempty
+unfolding constraints constraintsIn pairsIn parts grow nonempty sameBytes
 two-constraints = refl
+
+-- `((a clockUnion b)upto c)precedes d`: three constraints on four named clocks and two implicit ones, which are 4, the union, and 5
+abbrev nested : Line
+nested = ascii "((a clockUnion b)upto c)precedes d"
+
+abbrev nestedForm : Form Operand
+nestedForm = relates Precedes (inner (both Upto (inner (both Union (name (ascii "a")) (name (ascii "b")))) (name (ascii "c")))) (name (ascii "d"))
+
+nested-counts : (clocks (nested ∷ []) ∷ constraints (nested ∷ []) ∷ []) ≡ 6 ∷ 3 ∷ []
+unfolding withLines withNames namesIn pairs pairsIn constraints constraintsIn parts grow nonempty nameShape oneOf allBytes sameBytes
+nested-counts = refl
+
+nested-records : map (λ r. r .defined ∷ r .first ∷ r .second ∷ []) (recordsOf (clockNames (nested ∷ [])) 4 1 0 nestedForm) ≡ (4 ∷ 0 ∷ 1 ∷ []) ∷ (5 ∷ 4 ∷ 2 ∷ []) ∷ (0 ∷ 5 ∷ 3 ∷ []) ∷ []
+unfolding standing withLines withNames namesIn parts grow nonempty nameShape oneOf allBytes sameBytes
+nested-records = refl

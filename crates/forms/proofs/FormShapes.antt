@@ -1,0 +1,59 @@
+-- The rows of forms by their shape: two operands with the words of a kind between them, or an await; a relation, or a definition. Assumes nothing.
+use mathlib.Core.Path.{_≡_, refl}
+use mathlib.Core.Bool.{true}
+use mathlib.Core.List.{_∷_, _++_}
+use Rattle.constraint.specs.declared.Definition.{Definition}
+use Rattle.constraint.specs.declared.Definition.the-variants.{Union, Inter, Lub, Glb, StrictlySampled, Sampled, Upto}
+use Rattle.constraint.specs.declared.Kind.{Kind}
+use Rattle.constraint.specs.declared.Kind.the-variants.{Relates, Defines}
+use Rattle.constraint.specs.declared.Relation.{Relation}
+use Rattle.constraint.specs.declared.Relation.the-variants.{Coincides, Excludes, SubClock, StrictlyPrecedes, Precedes}
+use Rattle.text.specs.Ascii.{ascii}
+use Rattle.text.specs.Digits.{value}
+use Rattle.grammar.specs.Grammar.{isKind}
+use Rattle.grammar.proofs.KindLaws.{notAwait}
+use Rattle.forms.specs.Forms.{Word, Words, isName, isDigits, Right, both, awaits, Form, relates, defines, IsRight, union, inter, lub, glb, await, strictly-sampled, sampled, upto, IsForm, coincides, excludes, sub-clock, strictly-precedes, precedes, clock-def}
+use Rattle.forms.proofs.WordLaws.{kindWords}
+
+module _ (O : Type 0) (IsOp : Words → O → Type 0) where
+  -- two operands with a kind between them
+  pub record Between (k : Kind) (x y : O) (us : Words) : Type 0 where
+    pub a : Words
+    pub c : Words
+    pub first : IsOp a x
+    pub second : IsOp c y
+    pub kind : isKind k ≡ true
+    pub plainly : notAwait k ≡ true
+    pub words : us ≡ a ++ (kindWords k ++ c)
+
+  -- a right side, as one of two shapes
+  pub data RightShape (us : Words) : Right O → Type 0 where
+    two : {k : Definition} {x y : O} → Between (Defines k) x y us → RightShape us (both k x y)
+    waits : {n : Word} {a : Words} {x : O} → isDigits n ≡ true → IsOp a x → us ≡ ascii "await" ∷ n ∷ a → RightShape us (awaits (value 0 n) x)
+
+  between : (k : Kind) (a c : Words) (x y : O) → isKind k ≡ true → notAwait k ≡ true → IsOp a x → IsOp c y → Between k x y (a ++ (kindWords k ++ c))
+  between k a c x y i n p q = record { a = a; c = c; first = p; second = q; kind = i; plainly = n; words = refl }
+
+  pub right-shape : (us : Words) (r : Right O) → IsRight IsOp us r → RightShape us r
+  unfolding notAwait
+  right-shape us r (union {a = a} {b = c} {x = x} {y = y} p q) = two (between (Defines Union) a c x y refl refl p q)
+  right-shape us r (inter {a = a} {b = c} {x = x} {y = y} p q) = two (between (Defines Inter) a c x y refl refl p q)
+  right-shape us r (lub {a = a} {b = c} {x = x} {y = y} p q) = two (between (Defines Lub) a c x y refl refl p q)
+  right-shape us r (glb {a = a} {b = c} {x = x} {y = y} p q) = two (between (Defines Glb) a c x y refl refl p q)
+  right-shape us r (await {n = n} {a = a} {x = x} d p) = waits d p refl
+  right-shape us r (strictly-sampled {a = a} {b = c} {x = x} {y = y} p q) = two (between (Defines StrictlySampled) a c x y refl refl p q)
+  right-shape us r (sampled {a = a} {b = c} {x = x} {y = y} p q) = two (between (Defines Sampled) a c x y refl refl p q)
+  right-shape us r (upto {a = a} {b = c} {x = x} {y = y} p q) = two (between (Defines Upto) a c x y refl refl p q)
+
+  pub data Shape (us : Words) : Form O → Type 0 where
+    relation : {k : Relation} {x y : O} → Between (Relates k) x y us → Shape us (relates k x y)
+    definition : {c : Word} {rs : Words} {r : Right O} → isName c ≡ true → IsRight IsOp rs r → us ≡ c ∷ ascii "clockDef" ∷ rs → Shape us (defines c r)
+
+  pub shape : (us : Words) (f : Form O) → IsForm IsOp us f → Shape us f
+  unfolding notAwait
+  shape us f (coincides {a = a} {b = c} {x = x} {y = y} p q) = relation (between (Relates Coincides) a c x y refl refl p q)
+  shape us f (excludes {a = a} {b = c} {x = x} {y = y} p q) = relation (between (Relates Excludes) a c x y refl refl p q)
+  shape us f (sub-clock {a = a} {b = c} {x = x} {y = y} p q) = relation (between (Relates SubClock) a c x y refl refl p q)
+  shape us f (strictly-precedes {a = a} {b = c} {x = x} {y = y} p q) = relation (between (Relates StrictlyPrecedes) a c x y refl refl p q)
+  shape us f (precedes {a = a} {b = c} {x = x} {y = y} p q) = relation (between (Relates Precedes) a c x y refl refl p q)
+  shape us f (clock-def n p) = definition n p refl
