@@ -106,7 +106,7 @@ finish b = record { records = map (renumbered (b .names .count)) (b .records); c
 
 -- a table's clocks
 abbrev pub clocksIn : Table → Clocks
-clocksIn t = record { count = t .names .count + t .implicit }
+clocksIn t = record { named = t .names .count; count = t .names .count + t .implicit }
 
 -- the first and the third implicit clock, behind five names
 behind-five : map (renumber 5) (provisional 0 ∷ provisional 2 ∷ 4 ∷ []) ≡ 5 ∷ 7 ∷ 4 ∷ []
