@@ -1,8 +1,8 @@
 -- Slots: the list that an array of records and a count stand for. What stands at a place of it, how many there are, one more record, and the
 -- word of a slot that limit 60 lets pass. Assumes nothing.
-use mathlib.Core.Path.{_≡_, refl, ap}
+use mathlib.Core.Path.{_≡_, refl, sym, ap}
 use mathlib.Core.Bool.{true}
-use mathlib.Core.List.{List, [], _∷_, _++_}
+use mathlib.Core.List.{List, [], _∷_, _++_, map}
 use Prim.Native.Nat.{ℕ, zero, suc, _≤_, _<_}
 use native.Mathlib.Omega.{arith}
 use lib.ListN.{length, drop, getD, set}
@@ -67,6 +67,12 @@ pub slots-more : (n : ℕ) (rs : List Constraint) (r : Constraint) → length rs
 slots-more zero rs r h = absurd (omega arith)
 slots-more (suc n) [] r h = refl
 slots-more (suc n) (s ∷ rs) r h = ap (λ ss. s ∷ ss) (slots-more n rs r (omega arith))
+
+-- a map that keeps an empty slot
+pub slots-map : (f : Constraint → Constraint) → f empty ≡ empty → (n : ℕ) (rs : List Constraint) → slots n (map f rs) ≡ map f (slots n rs)
+slots-map f e zero rs = refl
+slots-map f e (suc n) [] = λ i. sym e i ∷ slots-map f e n [] i
+slots-map f e (suc n) (r ∷ rs) = ap (λ ss. f r ∷ ss) (slots-map f e n rs)
 
 pub slots-slots : (n : ℕ) (rs : List Constraint) → length rs ≤ n → slots (length rs) (slots n rs) ≡ rs
 slots-slots n [] h = refl

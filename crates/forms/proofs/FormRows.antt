@@ -145,17 +145,17 @@ module _ (t : List ℕ) (ns : Names) where
   operands-agree (suc n) = record { sound = deeper-sound n (operands-agree n); complete = deeper-complete n (operands-agree n); opens = operand-opens (IsRight (IsOperand n)) }
 
   -- ---- lines
-  module _ (n : ℕ) (s : Inner) (ws : List Span) where
-    abbrev pub formOf : Form Operand → Formed Inner
-    formOf f = formWith placed (clockNamed t ns) s f
+  abbrev pub formOf : Inner → Form Operand → Formed Inner
+  formOf s f = formWith placed (clockNamed t ns) s f
 
-    pub form-sound : (g : Formed Inner) (us : List Span) → formIn t n ns s ws ≡ parsed g us → (f : Form Operand) × IsForm (IsOperand n) (said t ws) f × (g ≡ formOf f) × (us ≡ [])
+  module _ (n : ℕ) (s : Inner) (ws : List Span) where
+    pub form-sound : (g : Formed Inner) (us : List Span) → formIn t n ns s ws ≡ parsed g us → (f : Form Operand) × IsForm (IsOperand n) (said t ws) f × (g ≡ formOf s f) × (us ≡ [])
     form-sound g us e =
         let h : LineTaken t (IsOperand n) placed (clockNamed t ns) s ws g us = reads-forms t (IsOperand n) placed (operand t ns n) (operands-agree n) (clockNamed t ns) s ws g us .0 e in
         (h .form, h .fits, h .made, h .none)
 
-    pub form-complete : (f : Form Operand) → IsForm (IsOperand n) (said t ws) f → formIn t n ns s ws ≡ parsed (formOf f) []
-    form-complete f p = reads-forms t (IsOperand n) placed (operand t ns n) (operands-agree n) (clockNamed t ns) s ws (formOf f) [] .1 (record { none = refl; form = f; fits = p; made = refl })
+    pub form-complete : (f : Form Operand) → IsForm (IsOperand n) (said t ws) f → formIn t n ns s ws ≡ parsed (formOf s f) []
+    form-complete f p = reads-forms t (IsOperand n) placed (operand t ns n) (operands-agree n) (clockNamed t ns) s ws (formOf s f) [] .1 (record { none = refl; form = f; fits = p; made = refl })
 
     pub no-form-row : (formIn t n ns s ws ≡ noForm) ↔ ((f : Form Operand) → IsForm (IsOperand n) (said t ws) f → ⊥)
     no-form-row = no-form-fits t (IsOperand n) placed (operand t ns n) (operands-agree n) (clockNamed t ns) s ws

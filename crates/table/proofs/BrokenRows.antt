@@ -2,9 +2,9 @@
 -- Assumes nothing.
 use mathlib.Core.Path.{_≡_, refl, sym, ap, subst, _∙_}
 use mathlib.Core.Logic.{_↔_}
-use mathlib.Core.Bool.{Bool, true, false, not, cond, or-false, false≢true}
+use mathlib.Core.Bool.{Bool, true, false, not, cond, _||_, or-false, false≢true}
 use mathlib.Core.List.{List, [], _∷_, _++_}
-use Prim.Native.Nat.{ℕ, _+_, _≤_, _<_}
+use Prim.Native.Nat.{ℕ, suc, _+_, _≤_, _<_, min}
 use native.Mathlib.Omega.{arith}
 use borrow.Author.Tests.{leb-true, le-leb, ltb-true, lt-ltb}
 use lib.Dec.{leb, ltb}
@@ -16,14 +16,15 @@ use Rattle.constraint.specs.declared.Relation.{Relation}
 use Rattle.text.specs.Bytes.{inClass, allBytes}
 use Rattle.text.specs.declared.Class.the-variants.{Printable}
 use Rattle.text.specs.declared.Span.{Span}
+use Rattle.grammar.specs.declared.Inner.{Inner}
 use Rattle.grammar.specs.declared.Names.{Names}
-use Rattle.forms.specs.Forms.{Word, Words, Line, wordsOf, oneOf, both, awaits, Form, relates, defines, Operand, IsForm, IsOperand, HasForm}
-use Rattle.forms.specs.Lines.{namesIn, constraintsIn, awaitNumbers, clockNames, clocks, constraints, Some, Filled, DefinesClock, Breaks, byte-outside, long-name, await-number, name-twice, defined-above, many-clocks, many-constraints, standing}
+use Rattle.forms.specs.Forms.{Word, Words, Line, wordsOf, oneOf, both, awaits, Form, relates, defines, Operand, IsForm, IsOperand, levels, HasForm}
+use Rattle.forms.specs.Lines.{namesIn, pairsIn, constraintsIn, awaitNumbers, clockNames, pairs, constraints, Some, Filled, DefinesClock, Breaks, byte-outside, long-name, await-number, name-twice, defined-above, many-clocks, many-constraints, standing}
 use Rattle.forms.proofs.ClockNames.{Keeps, constraints-more}
 use Rattle.forms.proofs.FormRows.{clockNamed, formOf}
-use Rattle.forms.proofs.FormUnique.{one-form-of-names}
+use Rattle.forms.proofs.FormUnique.{one-form-of}
 use Rattle.forms.proofs.Said.{said}
-use Rattle.table.specs.Reader.{anyWord, longName, badNumber, twice}
+use Rattle.table.specs.Reader.{anyWord, longName, badNumber, twice, manyClocks}
 use Rattle.table.proofs.ClocksDefined.{Marks, marked-row}
 use Rattle.table.proofs.LineRows.{byte-row, long-row, number-row, Again, twice-row}
 use Rattle.table.proofs.NamesListed.{listed, clock-is}
@@ -50,7 +51,7 @@ module _ (above : List Line) (l : Line) where
     row-14 f h = (λ e. await-number h (row f h .0 e), from)
       where
         row : (f : Form Operand) → HasForm l f → (anyWord (badNumber t) ws ≡ true) ↔ Some (λ n. 1 ≤ n → n ≤ 1_000_000 → ⊥) (awaitNumbers f)
-        row f h = number-row t ws (subst (λ (us : Words). IsForm IsOperand us f) (sym words) h)
+        row f h = number-row t ws (subst (λ (us : Words). IsForm (IsOperand levels) us f) (sym words) h)
 
         from : Breaks above l AwaitNumber → anyWord (badNumber t) ws ≡ true
         from (await-number {f = g} k s) = row g k .1 s
@@ -67,16 +68,16 @@ module _ (above : List Line) (l : Line) where
   -- ---- 16
   pub one-defined : (c d : Word) → DefinesClock c l → DefinesClock d l → c ≡ d
   one-defined c d p q =
-      let e : defines c (p .0) ≡ defines d (q .0) = one-form-of-names (wordsOf l) (defines c (p .0)) (defines d (q .0)) (p .1) (q .1) in
+      let e : defines c (p .0) ≡ defines d (q .0) = one-form-of levels (wordsOf l) (defines c (p .0)) (defines d (q .0)) (p .1) (q .1) in
       cc
 
   pub none-defined : {k : Relation} {x y : Operand} → HasForm l (relates k x y) → (c : Word) → DefinesClock c l → ⊥
   none-defined {k} {x} {y} h c p =
-      let e : relates k x y ≡ defines c (p .0) = one-form-of-names (wordsOf l) (relates k x y) (defines c (p .0)) h (p .1) in
+      let e : relates k x y ≡ defines c (p .0) = one-form-of levels (wordsOf l) (relates k x y) (defines c (p .0)) h (p .1) in
       let z : _≡_ {A = ℕ} 0 1 = cc in
       omega arith
 
-  module _ (F : Ticks) (m : Marks above F) (t : List ℕ) (ns : Names) (k : Keeps (clockNames above) (said t (listed ns))) (few : length (clockNames above) ≤ 32) where
+  module _ (F : Ticks) (m : Marks above F) (t : List ℕ) (ns : Names) (i : Inner) (k : Keeps (clockNames above) (said t (listed ns))) (few : length (clockNames above) ≤ 32) where
     row-defines : (c : Word) → DefinesClock c l → (F (clockNamed t ns c) ≡ true) ↔ Breaks above l DefinedTwice
     row-defines c d = rw (clock-is t ns c) (λ e. defined-above d (row .0 e), from)
       where
@@ -86,7 +87,7 @@ module _ (above : List Line) (l : Line) where
         from : Breaks above l DefinedTwice → F (cond (oneOf (said t (listed ns)) c) (standing (said t (listed ns)) c) 32) ≡ true
         from (defined-above {c = w} p s) = row .1 (subst (λ (v : Word). Some (DefinesClock v) above) (one-defined w c p d) s)
 
-    pub row-16 : (f : Form Operand) → HasForm l f → (any F (definedOf (formOf t ns f .constraint)) ≡ true) ↔ Breaks above l DefinedTwice
+    pub row-16 : (f : Form Operand) → HasForm l f → (any F (definedOf (formOf t ns i f .constraint)) ≡ true) ↔ Breaks above l DefinedTwice
     row-16 (relates j x y) h = (λ e. absurd (false≢true e), from)
       where
         from : Breaks above l DefinedTwice → false ≡ true
@@ -96,21 +97,27 @@ module _ (above : List Line) (l : Line) where
 
   -- ---- 17 and 18
   module _ (full : Filled l) where
-    pub row-17 : (x : Bool) → x ≡ ltb 32 (clocks (above ++ l ∷ [])) → (x ≡ true) ↔ Breaks above l TableClocks
-    row-17 x q = (λ e. many-clocks full (ltb-true 32 (clocks (above ++ l ∷ [])) (sym q ∙ e)), from)
-      where
-        from : Breaks above l TableClocks → x ≡ true
-        from (many-clocks f h) = q ∙ lt-ltb 32 (clocks (above ++ l ∷ [])) h
+    module _ (ns : Names) (i : Inner) (over : ns .over ≡ ltb 32 (length (clockNames (above ++ l ∷ [])))) (all : ns .over ≡ false → ns .count ≡ length (clockNames (above ++ l ∷ [])))
+        (counted : i .clocks ≡ min 33 (pairs (above ++ l ∷ []))) where
+      pub row-17 : (manyClocks ns i ≡ true) ↔ Breaks above l TableClocks
+      row-17 = go (ns .over) refl
+        where
+          go : (x : Bool) → ns .over ≡ x → ((x || leb 33 (ns .count + i .clocks)) ≡ true) ↔ Breaks above l TableClocks
+          go true q = (λ e. many-clocks full (let h : 32 < length (clockNames (above ++ l ∷ [])) = ltb-true 32 _ (sym over ∙ q) in omega arith), λ b. refl)
+          go false q = (λ e. many-clocks full (omega (arith, leb-true 33 (ns .count + i .clocks) e, all q)), from)
+            where
+              from : Breaks above l TableClocks → leb 33 (ns .count + i .clocks) ≡ true
+              from (many-clocks f h) = le-leb 33 (ns .count + i .clocks) (omega (arith, all q))
 
-    pub one-more : constraints (above ++ l ∷ []) ≡ constraints above + 1
+    pub one-more : constraints (above ++ l ∷ []) ≡ constraints above + suc (pairsIn (wordsOf l))
     one-more = constraints-more above l ∙ ap (λ (k : ℕ). constraints above + k) (go (wordsOf l) full)
       where
-        go : (ws : Words) → (ws ≡ [] → ⊥) → constraintsIn ws ≡ 1
+        go : (ws : Words) → (ws ≡ [] → ⊥) → constraintsIn ws ≡ suc (pairsIn ws)
         go [] f = absurd (f refl)
         go (w ∷ ws) f = unfold constraintsIn in refl
 
-    pub row-18 : (k : ℕ) → k ≡ constraints above → (leb 64 k ≡ true) ↔ Breaks above l TableConstraints
-    row-18 k q = (λ e. many-constraints full (omega (arith, one-more, leb-true 64 k e)), from)
+    pub row-18 : (k j : ℕ) → k ≡ constraints above → j ≡ pairsIn (wordsOf l) → (leb 64 (k + j) ≡ true) ↔ Breaks above l TableConstraints
+    row-18 k j q r = (λ e. many-constraints full (omega (arith, one-more, leb-true 64 (k + j) e)), from)
       where
-        from : Breaks above l TableConstraints → leb 64 k ≡ true
-        from (many-constraints f h) = le-leb 64 k (omega (arith, one-more))
+        from : Breaks above l TableConstraints → leb 64 (k + j) ≡ true
+        from (many-constraints f h) = le-leb 64 (k + j) (omega (arith, one-more))

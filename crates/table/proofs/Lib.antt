@@ -1,12 +1,11 @@
 pub mod BrokenRows
 pub mod ClocksDefined
 pub mod Determined
-pub mod FormClocks
 pub mod LineAdded
 pub mod LineRows
 pub mod LineVerdict
-pub mod NamesKnown
 pub mod NamesListed
-pub mod Passes
+pub mod Placing
 pub mod ReaderLaws
+pub mod Renumber
 pub mod TableVerdict

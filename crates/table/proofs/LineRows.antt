@@ -11,13 +11,15 @@ use lib.Dec.{leb, ltb, eqb}
 use lib.ListN.{length}
 use Rattle.text.specs.Ascii.{ascii}
 use Rattle.text.specs.Bytes.{inClass, allBytes, sameBytes}
+use Rattle.text.specs.Digits.{value}
 use Rattle.text.specs.Split.{bytesOf, front}
 use Rattle.text.specs.declared.Class.the-variants.{Printable}
 use Rattle.text.specs.declared.Span.{Span}
 use Rattle.text.proofs.Bytes.{differ-same}
-use Rattle.forms.specs.Forms.{Word, Words, oneOf, isName, Right, Form, defines, Operand, IsOperand, one-name, IsForm, coincides, excludes, sub-clock, strictly-precedes, precedes, clock-def, IsRight, union, inter, lub, glb, await, strictly-sampled, sampled, upto}
-use Rattle.forms.specs.Lines.{namesIn, awaitNumbers, Some}
+use Rattle.forms.specs.Forms.{Word, Words, oneOf, isName, isDigits, both, awaits, Form, relates, defines, Operand, name, both-inside, awaits-inside, IsOperand, levels, IsForm}
+use Rattle.forms.specs.Lines.{namesIn, operandNumbers, awaitNumbers, Some}
 use Rattle.forms.proofs.FormLaws.{await-value}
+use Rattle.forms.proofs.FormWords.{plainWords, Counts, found-by-none, adds, addsForm, form-counts}
 use Rattle.forms.proofs.SomeLaws.{or-true, anyOf, some-row}
 use Rattle.forms.proofs.Said.{said}
 use Rattle.forms.proofs.WordLaws.{digits-is, name-is}
@@ -26,6 +28,7 @@ use Rattle.grammar.specs.Tokens.{is, tokenOf, lookUp}
 use Rattle.grammar.specs.declared.Token.the-variants.{Name, Digits, Await}
 use Rattle.grammar.proofs.TokenLaws.{told-apart}
 use Rattle.table.specs.Reader.{anyWord, sameAs, longName, badNumber, twice}
+use Rattle.table.proofs.ReaderLaws.{or-none, or-assoc}
 use Rattle.forms.proofs.ClockNames.{same-turned, has, found}
 
 -- ---- 11
@@ -64,37 +67,55 @@ outside-row n = go (leb n 1_000_000) refl (eqb n 0) refl
         (λ d. absurd (true≢false (sym d ∙ e)), λ f. absurd (f (omega arith) h))
     go false q y e = let h : 1_000_000 < n = leb-false n 1_000_000 q in (λ _ j k. omega arith, λ f. refl)
 
+any-append : (p : ℕ → Bool) (xs ys : List ℕ) (z : Bool) → (anyOf p (xs ++ ys) || z) ≡ (anyOf p xs || (anyOf p ys || z))
+any-append p [] ys z = refl
+any-append p (x ∷ xs) ys z = sym (or-assoc (p x) (anyOf p (xs ++ ys)) z) ∙ ap (λ (b : Bool). p x || b) (any-append p xs ys z) ∙ or-assoc (p x) (anyOf p xs) (anyOf p ys || z)
+
 name-bad : (n : Word) (ws : Words) → isName n ≡ true → badIn (n ∷ ws) ≡ badIn ws
 unfolding badIn
 name-bad n ws e = rw (told-apart Name Await (tokenOf n) (name-is n ∙ e))
 
-last-bad : {a : Words} {x : Operand} → IsOperand a x → badIn a ≡ false
+other-bad : (w : Word) (ws : Words) → is Await (tokenOf w) ≡ false → badIn (w ∷ ws) ≡ badIn ws
 unfolding badIn
-last-bad (one-name {n = n} e) = name-bad n [] e
+other-bad w ws e = rw e
 
--- two operands with words between them of which none is `await`
-pair-bad : {a b : Words} {x y : Operand} (ks : Words) → badIn (ks ++ b) ≡ badIn b → IsOperand a x → IsOperand b y → badIn (a ++ (ks ++ b)) ≡ false
-pair-bad {b = b} ks s (one-name {n = n} e) q = name-bad n (ks ++ b) e ∙ s ∙ last-bad q
-
-side-bad : {ws : Words} {r : Right Operand} (c : Word) → IsRight IsOperand ws r → badIn ws ≡ anyOf outside (awaitNumbers (defines c r))
+await-bad : (n : Word) (ws : Words) → isDigits n ≡ true → badIn (ascii "await" ∷ n ∷ ws) ≡ (outside (value 0 n) || badIn ws)
 unfolding badIn lookUp sameBytes
-side-bad c (union p q) = pair-bad (ascii "clockUnion" ∷ []) refl p q
-side-bad c (inter p q) = pair-bad (ascii "clockInter" ∷ []) refl p q
-side-bad c (lub p q) = pair-bad (ascii "lub" ∷ []) refl p q
-side-bad c (glb p q) = pair-bad (ascii "glb" ∷ []) refl p q
-side-bad c (await {n = n} d p) = rw (told-apart Digits Await (tokenOf n) (digits-is n ∙ d), await-value n d, last-bad p)
-side-bad c (strictly-sampled p q) = pair-bad (ascii "strictly" ∷ ascii "sampled" ∷ []) refl p q
-side-bad c (sampled p q) = pair-bad (ascii "sampled" ∷ []) refl p q
-side-bad c (upto p q) = pair-bad (ascii "upto" ∷ []) refl p q
+await-bad n ws d = rw (await-value n d, told-apart Digits Await (tokenOf n) (digits-is n ∙ d))
 
-form-bad : {ws : Words} {f : Form Operand} → IsForm IsOperand ws f → badIn ws ≡ anyOf outside (awaitNumbers f)
-unfolding badIn lookUp sameBytes
-form-bad (coincides p q) = pair-bad (ascii "=" ∷ []) refl p q
-form-bad (excludes p q) = pair-bad (ascii "#" ∷ []) refl p q
-form-bad (sub-clock p q) = pair-bad (ascii "isSubClockOf" ∷ []) refl p q
-form-bad (strictly-precedes p q) = pair-bad (ascii "strictly" ∷ ascii "precedes" ∷ []) refl p q
-form-bad (precedes p q) = pair-bad (ascii "precedes" ∷ []) refl p q
-form-bad (clock-def {c = c} {ws = ws} e p) = name-bad c (ascii "clockDef" ∷ ws) e ∙ side-bad c p
+unfoldable bad-counted : Counts badIn
+unfolding lookUp sameBytes
+bad-counted = record {
+  named = λ n z. z;
+  enclosed = λ z. z;
+  awaited = λ n z. outside n || z;
+  of-name = name-bad;
+  of-open = λ us. other-bad (ascii "(") us refl;
+  of-await = await-bad;
+  passes = λ w us h. other-bad w us (found-by-none (λ u. is Await (tokenOf u)) plainWords refl w h);
+}
+
+adds-bad : (x : Operand) (z : Bool) → adds badIn bad-counted x z ≡ (anyOf outside (operandNumbers x) || z)
+unfolding bad-counted
+adds-bad (name w) z = refl
+adds-bad (both-inside k x y) z =
+    adds-bad x (adds badIn bad-counted y z) ∙ ap (λ (b : Bool). anyOf outside (operandNumbers x) || b) (adds-bad y z)
+    ∙ sym (any-append outside (operandNumbers x) (operandNumbers y) z)
+adds-bad (awaits-inside n x) z = ap (λ (b : Bool). outside n || b) (adds-bad x z) ∙ or-assoc (outside n) (anyOf outside (operandNumbers x)) z
+
+form-bad : {ws : Words} {f : Form Operand} → IsForm (IsOperand levels) ws f → badIn ws ≡ anyOf outside (awaitNumbers f)
+unfolding badIn bad-counted
+form-bad {ws} {f} h = form-counts badIn bad-counted levels ws f h ∙ go f
+  where
+    two : (x y : Operand) → adds badIn bad-counted x (adds badIn bad-counted y false) ≡ anyOf outside (operandNumbers x ++ operandNumbers y)
+    two x y =
+        adds-bad x (adds badIn bad-counted y false) ∙ ap (λ (b : Bool). anyOf outside (operandNumbers x) || b) (adds-bad y false)
+        ∙ sym (any-append outside (operandNumbers x) (operandNumbers y) false) ∙ or-none (anyOf outside (operandNumbers x ++ operandNumbers y))
+
+    go : (f : Form Operand) → addsForm badIn bad-counted f false ≡ anyOf outside (awaitNumbers f)
+    go (relates k x y) = two x y
+    go (defines c (both k x y)) = two x y
+    go (defines c (awaits n x)) = ap (λ (b : Bool). outside n || b) (adds-bad x false ∙ or-none (anyOf outside (operandNumbers x)))
 
 -- ---- 15: a name that stands twice among others
 twiceIn : Words → Bool
@@ -144,7 +165,7 @@ module _ (t : List ℕ) where
   bad-any [] = refl
   bad-any (w ∷ ws) = rw (first-bytes ws, bad-any ws)
 
-  pub number-row : (ws : List Span) {f : Form Operand} → IsForm IsOperand (said t ws) f → (anyWord (badNumber t) ws ≡ true) ↔ Some (λ n. 1 ≤ n → n ≤ 1_000_000 → ⊥) (awaitNumbers f)
+  pub number-row : (ws : List Span) {f : Form Operand} → IsForm (IsOperand levels) (said t ws) f → (anyWord (badNumber t) ws ≡ true) ↔ Some (λ n. 1 ≤ n → n ≤ 1_000_000 → ⊥) (awaitNumbers f)
   number-row ws {f} h = rw (bad-any ws, form-bad h) (some-row _ _ outside-row (awaitNumbers f))
 
   -- ---- 15

@@ -60,7 +60,7 @@ module _ (t : List ℕ) where
     pub over : ns .over ≡ ltb 32 (length us)
     pub words : ns .over ≡ false → said t (listed ns) ≡ us
 
-  listed-length : (ns : Names) → length (ns .spans) ≡ 32 → ns .count ≤ 32 → length (said t (listed ns)) ≡ ns .count
+  pub listed-length : (ns : Names) → length (ns .spans) ≡ 32 → ns .count ≤ 32 → length (said t (listed ns)) ≡ ns .count
   listed-length ns s h = length-map (listed ns) (bytesOf t) ∙ length-take (ns .count) (ns .spans) ∙ omega arith
 
   inside-last : (e : ℕ) (ps : List Span) (p : Span) → Inside e ps → p .end ≤ e → Inside e (ps ++ p ∷ [])

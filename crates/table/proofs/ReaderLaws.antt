@@ -1,9 +1,9 @@
 -- The checks of a line's words, word by word; the checks of a line, one by one; and the lines of a table, line by line.
 -- Assumes nothing.
-use mathlib.Core.Path.{_≡_, refl, ap, _∙_}
+use mathlib.Core.Path.{_≡_, refl, sym, ap, _∙_}
 use mathlib.Core.Bool.{Bool, true, false, not, cond, _||_}
 use mathlib.Core.List.{List, [], _∷_}
-use Prim.Native.Nat.{ℕ, _+_, _≤_, _<_}
+use Prim.Native.Nat.{ℕ, _+_, _-_, _≤_, _<_}
 use native.Mathlib.Decide.{decLt}
 use native.Mathlib.Omega.{arith}
 use borrow.Author.Tests.{le-leb, lt-leb, le-ltb, lt-ltb}
@@ -21,13 +21,14 @@ use Rattle.text.specs.Split.{span, piecesAt, runEnd}
 use Rattle.text.specs.declared.Class.the-variants.{Newline, Printable}
 use Rattle.text.specs.declared.Span.{Span}
 use Rattle.text.proofs.Runs.{piece-more, piece-last}
-use Rattle.grammar.specs.Building.{start, withConstraint, finish}
+use Rattle.grammar.specs.Building.{start, withLine, finish}
 use Rattle.grammar.specs.Grammar.{Parsed, noForm, parsed, Formed, lineWords}
 use Rattle.grammar.specs.declared.Builder.{Builder}
+use Rattle.grammar.specs.declared.Inner.{Inner}
 use Rattle.grammar.specs.declared.Names.{Names}
 use Rattle.grammar.specs.declared.Table.{Table}
 use Rattle.table.specs.Answers.{flawsOf, wordFlaws, either}
-use Rattle.table.specs.Reader.{anyWord, longName, badNumber, twice, addLine, formStep, wordsStep, filledStep, blank, lineStep, tellOf, readLines, mostBytes, readTable}
+use Rattle.table.specs.Reader.{anyWord, longName, badNumber, twice, manyClocks, manyConstraints, addLine, formStep, wordsStep, filledStep, blank, lineStep, tellOf, readLines, mostBytes, readTable}
 use Rattle.table.specs.declared.Flaws.{Flaws}
 
 -- ---- a test of some word
@@ -48,11 +49,11 @@ module _ (p : Span → List Span → Bool) (ws : List Span) where
     any-on q = any-turn ∙ rw q
 
 -- ---- the three tests in one walk
-or-none : (x : Bool) → (x || false) ≡ x
+pub or-none : (x : Bool) → (x || false) ≡ x
 or-none true = refl
 or-none false = refl
 
-or-assoc : (x y z : Bool) → (x || (y || z)) ≡ ((x || y) || z)
+pub or-assoc : (x y z : Bool) → (x || (y || z)) ≡ ((x || y) || z)
 or-assoc true y z = refl
 or-assoc false y z = refl
 
@@ -74,47 +75,59 @@ module _ (t : List ℕ) (f : Flaws) (ws : List Span) where
     pub flaws-on : either f (flawsOf t ws) ≡ either (either f (wordFlaws t w us)) (flawsOf t us)
     flaws-on = ap (either f) flaws-turn ∙ either-assoc f (wordFlaws t w us) (flawsOf t us)
 
+-- ---- a sum that reaches a number, by what is left of it
+module _ (most one other : ℕ) where
+  pub reach-one : most ≤ one → true ≡ leb most (one + other)
+  reach-one h = sym (le-leb most (one + other) (omega arith))
+
+  pub reach-other : one < most → leb (most - one) other ≡ leb most (one + other)
+  reach-other h = go (decLt other (most - one))
+    where
+      go : Dec (other < most - one) → leb (most - one) other ≡ leb most (one + other)
+      go (yes k) = lt-leb (most - one) other k ∙ sym (lt-leb most (one + other) (omega arith))
+      go (no k) = le-leb (most - one) other (omega arith) ∙ sym (le-leb most (one + other) (omega arith))
+
 -- ---- the checks of a line
-module _ (n : ℕ) (b : Builder) (ns : Names) (r : Constraint) where
-  pub refused-16 : any (bits (b .defined)) (definedOf r) ≡ true → addLine n b ns r ≡ stopped DefinedTwice n
+module _ (n : ℕ) (b : Builder) (ns : Names) (s : Inner) (r : Constraint) where
+  pub refused-16 : any (bits (b .defined)) (definedOf r) ≡ true → addLine n b ns s r ≡ stopped DefinedTwice n
   unfolding addLine
   refused-16 e = refuses _ _ _ _ e
 
   module _ (p16 : any (bits (b .defined)) (definedOf r) ≡ false) where
-    pub refused-17 : ns .over ≡ true → addLine n b ns r ≡ stopped TableClocks n
+    pub refused-17 : manyClocks ns s ≡ true → addLine n b ns s r ≡ stopped TableClocks n
     unfolding addLine
     refused-17 e = allows _ _ _ _ p16 ∙ refuses _ _ _ _ e
 
-    module _ (p17 : ns .over ≡ false) where
-      pub refused-18 : leb 64 (b .count) ≡ true → addLine n b ns r ≡ stopped TableConstraints n
+    module _ (p17 : manyClocks ns s ≡ false) where
+      pub refused-18 : manyConstraints b s ≡ true → addLine n b ns s r ≡ stopped TableConstraints n
       unfolding addLine
       refused-18 e = allows _ _ _ _ p16 ∙ (allows _ _ _ _ p17 ∙ refuses _ _ _ _ e)
 
-      pub added : leb 64 (b .count) ≡ false → addLine n b ns r ≡ passed (withConstraint b ns n r)
+      pub added : manyConstraints b s ≡ false → addLine n b ns s r ≡ passed (withLine n b ns s r)
       unfolding addLine
       added e = allows _ _ _ _ p16 ∙ (allows _ _ _ _ p17 ∙ allows _ _ _ _ e)
 
-module _ (t : List ℕ) (n : ℕ) (b : Builder) (ws : List Span) (p : Parsed (Formed Names)) where
-  pub refused-12 : p ≡ noForm → formStep t n b ws p ≡ stopped LineForm n
+module _ (t : List ℕ) (n : ℕ) (b : Builder) (ns : Names) (ws : List Span) (p : Parsed (Formed Inner)) where
+  pub refused-12 : p ≡ noForm → formStep t n b ns ws p ≡ stopped LineForm n
   unfolding formStep
   refused-12 e = rw e
 
-  module _ (f : Formed Names) (us : List Span) (e : p ≡ parsed f us) where
-    pub refused-13 : anyWord (longName t) ws ≡ true → formStep t n b ws p ≡ stopped NameLength n
+  module _ (f : Formed Inner) (us : List Span) (e : p ≡ parsed f us) where
+    pub refused-13 : anyWord (longName t) ws ≡ true → formStep t n b ns ws p ≡ stopped NameLength n
     unfolding formStep
     refused-13 x = rw e (refuses _ _ _ _ x)
 
     module _ (p13 : anyWord (longName t) ws ≡ false) where
-      pub refused-14 : anyWord (badNumber t) ws ≡ true → formStep t n b ws p ≡ stopped AwaitNumber n
+      pub refused-14 : anyWord (badNumber t) ws ≡ true → formStep t n b ns ws p ≡ stopped AwaitNumber n
       unfolding formStep
       refused-14 x = rw e (allows _ _ _ _ p13 ∙ refuses _ _ _ _ x)
 
       module _ (p14 : anyWord (badNumber t) ws ≡ false) where
-        pub refused-15 : anyWord (twice t) ws ≡ true → formStep t n b ws p ≡ stopped ClockTwice n
+        pub refused-15 : anyWord (twice t) ws ≡ true → formStep t n b ns ws p ≡ stopped ClockTwice n
         unfolding formStep
         refused-15 x = rw e (allows _ _ _ _ p13 ∙ (allows _ _ _ _ p14 ∙ refuses _ _ _ _ x))
 
-        pub to-add : anyWord (twice t) ws ≡ false → formStep t n b ws p ≡ addLine n b (f .left) (f .constraint)
+        pub to-add : anyWord (twice t) ws ≡ false → formStep t n b ns ws p ≡ addLine n b ns (f .left) (f .constraint)
         unfolding formStep
         to-add x = rw e (allows _ _ _ _ p13 ∙ (allows _ _ _ _ p14 ∙ allows _ _ _ _ x))
 

@@ -5,7 +5,7 @@ use mathlib.Core.List.{List}
 use Prim.Native.Nat.{ℕ}
 use Rattle.limit.specs.Checked.{Checked, checked}
 use Rattle.text.specs.declared.Span.{Span}
-use Rattle.grammar.specs.Building.{withConstraint}
+use Rattle.grammar.specs.Building.{withLine}
 use Rattle.grammar.specs.declared.Builder.{Builder}
 use Rattle.table.specs.Reader.{anyWord, longName, badNumber, twice}
 use Rattle.table.specs.declared.Flaws.{Flaws}
@@ -13,7 +13,7 @@ use Rattle.table.specs.declared.LineRead.{LineRead}
 
 -- the table so far with what a line says
 abbrev pub lineRead : ℕ → Builder → LineRead → Checked Builder
-lineRead n b r = checked (r .outcome) (withConstraint b (r .names) n (r .constraint))
+lineRead n b r = checked (r .outcome) (withLine n b (r .names) (r .inner) (r .constraint))
 
 -- of some words, one of which is to fail; of one word, with those after it; and of either
 abbrev pub flawsOf : List ℕ → List Span → Flaws

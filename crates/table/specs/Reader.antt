@@ -20,11 +20,12 @@ use Rattle.text.specs.Bytes.{inClass, allBytes, sameBytes}
 use Rattle.text.specs.Split.{bytesOf, piecesAt, front}
 use Rattle.text.specs.declared.Class.the-variants.{Newline, Space, Printable}
 use Rattle.text.specs.declared.Span.{Span}
-use Rattle.grammar.specs.Building.{emptyTable, start, withConstraint, finish, clocksIn}
-use Rattle.grammar.specs.Grammar.{Parsed, noForm, parsed, Formed, lineWords, awaitNumber, formIn}
+use Rattle.grammar.specs.Building.{emptyTable, start, noInner, withLine, finish, clocksIn}
+use Rattle.grammar.specs.Grammar.{Parsed, noForm, parsed, Formed, lineWords, awaitNumber, levels, formIn}
 use Rattle.grammar.specs.Names.{withWords}
 use Rattle.grammar.specs.Tokens.{is, tokenOf}
 use Rattle.grammar.specs.declared.Builder.{Builder}
+use Rattle.grammar.specs.declared.Inner.{Inner}
 use Rattle.grammar.specs.declared.Names.{Names}
 use Rattle.grammar.specs.declared.Table.{Table}
 use Rattle.grammar.specs.declared.Token.the-variants.{Name, Await}
@@ -54,26 +55,34 @@ twice t w ws = is Name (tokenOf (bytesOf t w)) && anyWord (sameAs t (bytesOf t w
 
 -- ---- what a line does to the table so far: the table with it, or the first limit that it breaks, with the line's number n as its place
 
--- 16 the clock it defines already defined by an earlier line; 17 a 33rd clock; 18 a 65th constraint
-unfoldable pub addLine : ℕ → Builder → Names → Constraint → Checked Builder
-addLine n b ns r =
-    refuseIf (any (bits (b .defined)) (definedOf r)) DefinedTwice n
-    (refuseIf (ns .over) TableClocks n
-    (refuseIf (leb 64 (b .count)) TableConstraints n
-    (passed (withConstraint b ns n r))))
+-- a 33rd clock, named or implicit
+abbrev pub manyClocks : Names → Inner → Bool
+manyClocks ns s = ns .over || leb 33 (ns .count + s .clocks)
 
--- 12 no form fits; then 13, 14, 15, and 16 to 18
-unfoldable pub formStep : List ℕ → ℕ → Builder → List Span → Parsed (Formed Names) → Checked Builder
-formStep t n b ws noForm = stopped LineForm n
-formStep t n b ws (parsed f us) =
+-- 64 constraints stand before the line's own: those of the lines above, and the definitions of its implicit clocks
+abbrev pub manyConstraints : Builder → Inner → Bool
+manyConstraints b s = leb 64 (b .count + s .count)
+
+-- 16 the clock it defines already defined by an earlier line; 17 a 33rd clock; 18 a 65th constraint
+unfoldable pub addLine : ℕ → Builder → Names → Inner → Constraint → Checked Builder
+addLine n b ns s r =
+    refuseIf (any (bits (b .defined)) (definedOf r)) DefinedTwice n
+    (refuseIf (manyClocks ns s) TableClocks n
+    (refuseIf (manyConstraints b s) TableConstraints n
+    (passed (withLine n b ns s r))))
+
+-- 12 no form fits; then 13, 14, 15, and 16 to 18. The names have those of the line
+unfoldable pub formStep : List ℕ → ℕ → Builder → Names → List Span → Parsed (Formed Inner) → Checked Builder
+formStep t n b ns ws noForm = stopped LineForm n
+formStep t n b ns ws (parsed f us) =
     refuseIf (anyWord (longName t) ws) NameLength n
     (refuseIf (anyWord (badNumber t) ws) AwaitNumber n
     (refuseIf (anyWord (twice t) ws) ClockTwice n
-    (addLine n b (f .left) (f .constraint))))
+    (addLine n b ns (f .left) (f .constraint))))
 
 -- the clocks are numbered in the order in which the words stand
 abbrev pub wordsStep : List ℕ → ℕ → Builder → List Span → Checked Builder
-wordsStep t n b ws = formStep t n b ws (formIn t (withWords t (b .names) ws) ws)
+wordsStep t n b ws = let ns : Names = withWords t (b .names) ws in formStep t n b ns ws (formIn t levels ns (noInner (b .implicit)) ws)
 
 -- 11 byte outside 32 to 126. t is the text up to the line's end, from the line's start
 abbrev pub filledStep : List ℕ → ℕ → Builder → ℕ → Checked Builder
@@ -134,7 +143,7 @@ pub record Passes (table : Table) : Type 0 where
   pub records : brokenRecord (clocksIn table) (slots (table .count) (table .records)) ≡ Nowhere
   pub words : brokenWord (slots (table .count) (table .records)) (startWords (table .records)) ≡ Nowhere
   pub constraints : table .count ≤ 64
-  pub clocks : table .names .count ≤ 32
+  pub clocks : table .names .count + table .implicit ≤ 32
   pub unused : table .records ≡ slots 64 (slots (table .count) (table .records))
 
 abbrev pub EveryTablePasses : Type 0

@@ -4,6 +4,7 @@
 mod reader;
 
 use constraint::Constraint;
+use grammar::Inner;
 use grammar::Names;
 use grammar::Table;
 use limit::Check;
@@ -22,9 +23,10 @@ pub struct Flaws {
     pub twice: bool,
 }
 
-// What a line says: the first refusal, or its constraint and the names with those of the line.
+// What a line says: the first refusal, or its constraint, the names with those of the line, and its implicit clocks.
 pub struct LineRead {
     pub outcome: Check,
     pub names: Names,
+    pub inner: Inner,
     pub constraint: Constraint,
 }

@@ -4,6 +4,7 @@ use super::LineRead;
 use super::TableRead;
 use constraint::Constraint;
 use grammar::Builder;
+use grammar::Inner;
 use grammar::Names;
 use grammar::Token;
 use grammar::WordRead;
@@ -12,8 +13,9 @@ use grammar::empty_table;
 use grammar::finish;
 use grammar::is;
 use grammar::line_form;
+use grammar::no_inner;
 use grammar::start;
-use grammar::with_constraint;
+use grammar::with_line;
 use grammar::with_words;
 use grammar::word_at;
 use limit::Check;
@@ -23,6 +25,8 @@ use limit::Refusal;
 use text::Class;
 use text::Span;
 ghost use mathlib.Core.Path.{_≡_};
+ghost use Prim.Native.Nat.{_+_};
+ghost use lib.Dec.{leb};
 ghost use Rattle.limit.specs.Checked.{stopped};
 ghost use Rattle.text.specs.Split.{bytesOf};
 ghost use Rattle.grammar.specs.Grammar.{lineWords};
@@ -112,32 +116,60 @@ fn flaws(line: &[u8], from: usize) -> Flaws
 }
 
 // The answer that a line breaks a limit.
-fn refuse(names: Names, limit: Limit, place: Place) -> LineRead
+fn refuse(names: Names, inner: Inner, limit: Limit, place: Place) -> LineRead
     ensures { λ r. ⌜ ((b : Builder) → a.lineRead (place .0) b r ≡ stopped limit (place .0)) ⌝ }
 {
     LineRead {
         outcome: Check::Refused(Refusal { limit, place }),
         names,
+        inner,
         constraint: constraint::empty(),
     }
 }
 
+// Whether two numbers together are a third or more.
+fn reach(most: usize, one: usize, other: usize) -> bool
+    ensures { λ r. ⌜ r ≡ leb most (one + other) ⌝ }
+{
+    if most <= one {
+        return true;
+    }
+    most - one <= other
+}
+
+// A 33rd clock, named or implicit.
+fn many_clocks(names: Names, inner: Inner) -> bool
+    ensures { λ r. ⌜ r ≡ d.manyClocks names inner ⌝ }
+{
+    if names.over {
+        return true;
+    }
+    reach(33, names.count, inner.clocks)
+}
+
 // Checks 16, 17 and 18 of a line's constraint.
-fn add_line(builder: Builder, names: Names, place: Place, constraint: Constraint) -> LineRead
-    ensures { λ r. ⌜ a.lineRead (place .0) builder r ≡ d.addLine (place .0) builder names constraint ⌝ }
+fn add_line(
+    builder: Builder,
+    names: Names,
+    inner: Inner,
+    place: Place,
+    constraint: Constraint,
+) -> LineRead
+    ensures { λ r. ⌜ a.lineRead (place .0) builder r ≡ d.addLine (place .0) builder names inner constraint ⌝ }
 {
     if constraint::defines_again(builder.defined, constraint) {
-        return refuse(names, Limit::DefinedTwice, place);
+        return refuse(names, inner, Limit::DefinedTwice, place);
     }
-    if names.over {
-        return refuse(names, Limit::TableClocks, place);
+    if many_clocks(names, inner) {
+        return refuse(names, inner, Limit::TableClocks, place);
     }
-    if 64 <= builder.count {
-        return refuse(names, Limit::TableConstraints, place);
+    if reach(64, builder.count, inner.count) {
+        return refuse(names, inner, Limit::TableConstraints, place);
     }
     LineRead {
         outcome: Check::Passed,
         names,
+        inner,
         constraint,
     }
 }
@@ -148,22 +180,23 @@ fn read_words(line: &[u8], builder: Builder, place: Place, from: usize) -> LineR
 {
     let before = builder.names;
     let names = with_words(line, before, from);
-    let form = line_form(line, names, from);
+    let form = line_form(line, names, no_inner(builder.implicit), from, 0);
+    let inner = form.inner;
     if !form.fits {
-        return refuse(names, Limit::LineForm, place);
+        return refuse(names, inner, Limit::LineForm, place);
     }
     let failed = flaws(line, from);
     if failed.long {
-        return refuse(names, Limit::NameLength, place);
+        return refuse(names, inner, Limit::NameLength, place);
     }
     if failed.bad {
-        return refuse(names, Limit::AwaitNumber, place);
+        return refuse(names, inner, Limit::AwaitNumber, place);
     }
     if failed.twice {
-        return refuse(names, Limit::ClockTwice, place);
+        return refuse(names, inner, Limit::ClockTwice, place);
     }
     let constraint = form.constraint;
-    add_line(builder, names, place, constraint)
+    add_line(builder, names, inner, place, constraint)
 }
 
 // A line that is not blank, from an offset of the text that ends with it.
@@ -172,7 +205,7 @@ fn read_line(line: &[u8], builder: Builder, place: Place, from: usize) -> LineRe
 {
     if !text::all_from(Class::Printable, line, from) {
         let names = builder.names;
-        return refuse(names, Limit::LineByte, place);
+        return refuse(names, no_inner(0), Limit::LineByte, place);
     }
     read_words(line, builder, place, from)
 }
@@ -213,8 +246,9 @@ pub fn read_table(text: &[u8]) -> TableRead
             return refused(refusal);
         }
         let names = step.names;
+        let inner = step.inner;
         let constraint = step.constraint;
-        builder = with_constraint(builder, names, Place(line), constraint);
+        builder = with_line(Place(line), builder, names, inner, constraint);
         line += 1;
         at = end + 1;
     }

@@ -9,9 +9,10 @@ use Rattle.table.proofs.reader.read_line.Tie as tie
 
 returns : tie.Need-returns
 returns c =
-    let a = c .before .before .before in
+    let d = c .before .before .before in
+    let a = d .before in
     let s = a .before .before .args in
-    c .refuse .ensures (s .builder) ∙ sym (refused-11 (now (s .line)) (s .place .0) (s .builder) (s .from) (sym (a .all-from .ensures) ∙ not-true _ (c .before .before .if1 .taken)))
+    c .refuse .ensures (s .builder) ∙ sym (refused-11 (now (s .line)) (s .place .0) (s .builder) (s .from) (sym (a .all-from .ensures) ∙ not-true _ (d .if1 .taken)))
 
 returns-2 : tie.Need-returns-2
 returns-2 c =
@@ -23,6 +24,7 @@ pub read-line-spec : {M : Type 1} → statement M
 read-line-spec =
     tie.close
     (tie.spec
+    (λ c κs. search needs)
     (λ c κs. search needs)
     (λ c κs. search needs)
     returns

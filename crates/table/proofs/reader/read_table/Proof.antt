@@ -74,9 +74,10 @@ returns-2 c =
 
 loop-again-2 : tie.Need-loop-again-2 Inv-loop μ-loop
 loop-again-2 c =
-    let r = c .before .before .before .before .before in
+    let k = c .before .before .before .before in
+    let r = k .before .before in
     let e = r .before .before .before .before .before in
-    (omega (arith, end-from e), l e .loop .inv .1, rw (c .with-constraint .ensures) (on-it-goes e _ (stepped r ∙ rw (c .before .before .before .enum-told .given .1))))
+    (omega (arith, end-from e), l e .loop .inv .1, rw (c .with-line .ensures) (on-it-goes e _ (stepped r ∙ rw (k .enum-told .given .1))))
 
 returns-3 : tie.Need-returns-3 Inv-loop μ-loop
 returns-3 c =
@@ -107,9 +108,9 @@ read-table-spec =
     returns-2
     (λ c. c .match .keys2)
     (λ c κs. tt)
-    (λ c. omega (arith, end-within (c .before .before .before .before .before .before .before .before .before .before)))
-    (λ c. omega (arith, end-within (c .before .before .before .before .before .before .before .before .before .before)))
-    (λ c. omega (arith, end-from (c .before .before .before .before .before .before .before .before .before .before)))
+    (λ c. omega (arith, end-within (c .before .before .before .before .before .before .before .before .before .before .before)))
+    (λ c. omega (arith, end-within (c .before .before .before .before .before .before .before .before .before .before .before)))
+    (λ c. omega (arith, end-from (c .before .before .before .before .before .before .before .before .before .before .before)))
     loop-again-2
     (λ c κs. tt)
     returns-3)

@@ -3,8 +3,10 @@ use mathlib.Core.Path.{_≡_, sym, ap, _∙_}
 use borrow.Author.Tests.{not-true, not-false}
 use denote.Ref.{now}
 use Rattle.grammar.specs.Answers.{formRead}
-use Rattle.grammar.specs.Grammar.{parsed, lineWords, formIn}
+use Rattle.grammar.specs.Building.{noInner}
+use Rattle.grammar.specs.Grammar.{parsed, lineWords, levels, formIn}
 use Rattle.grammar.specs.Names.{withWords}
+use Rattle.grammar.specs.declared.Names.{Names}
 use Rattle.grammar.proofs.GrammarLaws.{form-not, form-is}
 use Rattle.table.specs.Reader.{anyWord, longName, badNumber, twice}
 use Rattle.table.specs.declared.Flaws.{Flaws}
@@ -14,21 +16,25 @@ use Rattle.table.proofs.reader.read_words.Statement.{statement}
 use Rattle.table.proofs.reader.read_words.Tie as tie
 
 abbrev start : tie.After-line-form → tie.Start
-start f = f .before .before .before .before
+start f = f .before .before .before .before .before
+
+-- the names with those of the line
+abbrev names : tie.After-line-form → Names
+names f = let s = start f .args in withWords (now (s .line)) (s .builder .names) (lineWords (now (s .line)) (s .from))
 
 -- what the line's form was read as
-form : (f : tie.After-line-form) → (let s = start f .args in let t = now (s .line) in let ns = withWords t (s .builder .names) (lineWords t (s .from)) in
-    formRead t ns (f .line-form .result) ≡ formIn t ns (lineWords t (s .from)))
-form f = rw (← f .before .with-words .ensures) (f .line-form .ensures)
+form : (f : tie.After-line-form) → (let s = start f .args in let t = now (s .line) in
+    formRead t (f .line-form .result) ≡ formIn t levels (names f) (noInner (s .builder .implicit)) (lineWords t (s .from)))
+form f = rw (← f .before .before .with-words .ensures, ← f .before .no-inner .ensures) (f .line-form .ensures)
 
-fits : (e : tie.Else1) → (let f = e .before .before in let s = start f .args in let t = now (s .line) in let ns = withWords t (s .builder .names) (lineWords t (s .from)) in
-    formIn t ns (lineWords t (s .from)) ≡ parsed (record { left = ns; constraint = f .line-form .result .constraint }) (lineWords t (f .line-form .result .at)))
-fits e = let f = e .before .before in sym (form f) ∙ form-is (now (start f .args .line)) _ (f .line-form .result) (not-false _ (e .if1 .left))
+fits : (e : tie.Else1) → (let f = e .before .before .before in let s = start f .args in let t = now (s .line) in
+    formIn t levels (names f) (noInner (s .builder .implicit)) (lineWords t (s .from)) ≡ parsed (record { left = f .line-form .result .inner; constraint = f .line-form .result .constraint }) (lineWords t (f .line-form .result .at)))
+fits e = let f = e .before .before .before in sym (form f) ∙ form-is (now (start f .args .line)) (f .line-form .result) (not-false _ (e .if1 .left))
 
 -- what the words fail
 module _ (w : tie.After-flaws) where
   abbrev s : tie.Start
-  s = start (w .before .before .before)
+  s = start (w .before .before .before .before)
 
   long-is : w .flaws .result .long ≡ anyWord (longName (now (s .args .line))) (lineWords (now (s .args .line)) (s .args .from))
   long-is = ap (λ (x : Flaws). x .long) (w .flaws .ensures)
@@ -41,26 +47,26 @@ module _ (w : tie.After-flaws) where
 
 returns : tie.Need-returns
 returns c =
-    let f = c .before .before .before in
-    c .refuse .ensures (start f .args .builder) ∙ sym (refused-12 _ _ _ _ _ (sym (form f) ∙ form-not (now (start f .args .line)) _ (f .line-form .result) (not-true _ (c .before .if1 .taken))))
+    let f = c .before .before .before .before in
+    c .refuse .ensures (start f .args .builder) ∙ sym (refused-12 _ _ _ _ _ _ (sym (form f) ∙ form-not (now (start f .args .line)) (f .line-form .result) (not-true _ (c .before .if1 .taken))))
 
 returns-2 : tie.Need-returns-2
 returns-2 c =
     let w = c .before .before in
-    c .refuse2 .ensures (s w .args .builder) ∙ sym (refused-13 _ _ _ _ _ _ _ (fits (w .before)) (sym (long-is w) ∙ c .before .if2 .taken))
+    c .refuse2 .ensures (s w .args .builder) ∙ sym (refused-13 _ _ _ _ _ _ _ _ (fits (w .before)) (sym (long-is w) ∙ c .before .if2 .taken))
 
 returns-3 : tie.Need-returns-3
 returns-3 c =
     let e = c .before .before in
     let w = e .before in
-    c .refuse3 .ensures (s w .args .builder) ∙ sym (refused-14 _ _ _ _ _ _ _ (fits (w .before)) (sym (long-is w) ∙ e .if2 .left) (sym (bad-is w) ∙ c .before .if3 .taken))
+    c .refuse3 .ensures (s w .args .builder) ∙ sym (refused-14 _ _ _ _ _ _ _ _ (fits (w .before)) (sym (long-is w) ∙ e .if2 .left) (sym (bad-is w) ∙ c .before .if3 .taken))
 
 returns-4 : tie.Need-returns-4
 returns-4 c =
     let f = c .before .before in
     let e = f .before in
     let w = e .before in
-    c .refuse4 .ensures (s w .args .builder) ∙ sym (refused-15 _ _ _ _ _ _ _ (fits (w .before)) (sym (long-is w) ∙ e .if2 .left) (sym (bad-is w) ∙ f .if3 .left) (sym (twice-is w) ∙ c .before .if4 .taken))
+    c .refuse4 .ensures (s w .args .builder) ∙ sym (refused-15 _ _ _ _ _ _ _ _ (fits (w .before)) (sym (long-is w) ∙ e .if2 .left) (sym (bad-is w) ∙ f .if3 .left) (sym (twice-is w) ∙ c .before .if4 .taken))
 
 returns-5 : tie.Need-returns-5
 returns-5 c =
@@ -69,13 +75,14 @@ returns-5 c =
     let e = f .before in
     let w = e .before in
     c .add-line .ensures
-    ∙ rw (w .before .before .before .before .with-words .ensures)
-    (sym (to-add _ _ _ _ _ _ _ (fits (w .before)) (sym (long-is w) ∙ e .if2 .left) (sym (bad-is w) ∙ f .if3 .left) (sym (twice-is w) ∙ g .if4 .left)))
+    ∙ rw (w .before .before .before .before .before .before .with-words .ensures)
+    (sym (to-add _ _ _ _ _ _ _ _ (fits (w .before)) (sym (long-is w) ∙ e .if2 .left) (sym (bad-is w) ∙ f .if3 .left) (sym (twice-is w) ∙ g .if4 .left)))
 
 pub read-words-spec : {M : Type 1} → statement M
 read-words-spec =
     tie.close
     (tie.spec
+    (λ c κs. search needs)
     (λ c κs. search needs)
     (λ c κs. search needs)
     (λ c κs. search needs)

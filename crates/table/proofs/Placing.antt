@@ -1,0 +1,202 @@
+-- What operands and forms come to in a table being built: their clocks numbered, and the definitions of their implicit clocks, as the page of
+-- lines has them where the implicit clocks begin at 32. Assumes nothing.
+use mathlib.Core.Path.{_≡_, refl, sym, ap, subst, _∙_}
+use mathlib.Core.Bool.{Bool, true, false, cond}
+use mathlib.Core.List.{List, [], _∷_, _++_, map, map-append, append-assoc, append-nil}
+use Prim.Native.Nat.{ℕ, suc, _+_, _≤_, _<_, min}
+use native.Mathlib.Numerals.{add-one}
+use native.Mathlib.Omega.{arith}
+use borrow.Author.Tests.{lt-ltb, le-ltb, ltb-true, ltb-false, le-leb, lt-leb, leb-true, leb-false}
+use lib.Dec.{ltb, leb}
+use lib.ListN.{length, set, length-set}
+use lib.Seq.{take-suc-set}
+use Rattle.constraint.specs.declared.Constraint.{Constraint}
+use Rattle.constraint.specs.declared.Definition.{Definition}
+use Rattle.constraint.specs.declared.Definition.the-variants.{Await as AwaitKind}
+use Rattle.constraint.specs.declared.Kind.the-variants.{Defines}
+use Rattle.grammar.specs.Building.{defining, noInner, provisional, counted, withImplicit, definitions, onItsLine}
+use Rattle.grammar.specs.Grammar.{Formed, sides}
+use Rattle.grammar.specs.declared.Inner.{Inner}
+use Rattle.grammar.specs.declared.Names.{Names}
+use Rattle.forms.specs.Forms.{Word, Words, oneOf, both, awaits, Form, relates, defines, Operand, name, both-inside, awaits-inside}
+use Rattle.forms.specs.Lines.{operandNumbers, awaitNumbers, Some, here, later, standing, implicits, formImplicits, clockOf, operandRecords, formRecords, ownRecord}
+use Rattle.forms.proofs.ClockNames.{AllOf, all-left, all-right}
+use Rattle.forms.proofs.FormLaws.{parameterOf}
+use Rattle.forms.proofs.FormRows.{clockNamed, enclosed, placed, formOf}
+use Rattle.forms.proofs.FormWords.{operandNames, formNames}
+
+-- ---- implicit clocks are counted, to 33
+counted-one : (j m : ℕ) → j ≡ min 33 m → counted j ≡ min 33 (m + 1)
+counted-one j m e = go (ltb j 33) refl
+  where
+    go : (x : Bool) → ltb j 33 ≡ x → cond x (j + 1) j ≡ min 33 (m + 1)
+    go true q = let h : j < 33 = ltb-true j 33 q in omega arith
+    go false q = let h : 33 ≤ j = ltb-false j 33 q in omega arith
+
+with-clocks : (s : Inner) (r : Constraint) → withImplicit s r .clocks ≡ counted (s .clocks)
+with-clocks s r = go (leb 32 (s .count))
+  where
+    go : (x : Bool) → cond {A = Inner} x (record { clocks = counted (s .clocks); records = s .records; count = s .count }) (record { clocks = counted (s .clocks); records = set (s .records) (s .count) (defining (provisional (s .clocks)) r); count = s .count + 1 }) .clocks ≡ counted (s .clocks)
+    go true = refl
+    go false = refl
+
+module _ (t : List ℕ) (ns : Names) where
+  placed-clocks : (x : Operand) (s : Inner) (m : ℕ) → s .clocks ≡ min 33 m → placed t ns s x .left .clocks ≡ min 33 (m + implicits x)
+  placed-clocks (name w) s m e = e ∙ omega arith
+  placed-clocks (both-inside k x y) s m e =
+      let p = placed-clocks x s m e in
+      let q = placed-clocks y (placed t ns s x .left) (m + implicits x) p in
+      with-clocks _ _ ∙ counted-one _ (m + implicits x + implicits y) q ∙ omega arith
+  placed-clocks (awaits-inside n x) s m e = with-clocks _ _ ∙ counted-one _ (m + implicits x) (placed-clocks x s m e) ∙ omega arith
+
+  pub form-clocks : (f : Form Operand) (s : Inner) (m : ℕ) → s .clocks ≡ min 33 m → formOf t ns s f .left .clocks ≡ min 33 (m + formImplicits f)
+  form-clocks (relates k x y) s m e = placed-clocks y (placed t ns s x .left) (m + implicits x) (placed-clocks x s m e) ∙ omega arith
+  form-clocks (defines c (both k x y)) s m e = placed-clocks y (placed t ns s x .left) (m + implicits x) (placed-clocks x s m e) ∙ omega arith
+  form-clocks (defines c (awaits n x)) s m e = placed-clocks x s m e
+
+-- ---- await numbers that 14 lets pass
+abbrev Inside : List ℕ → Type 0
+Inside [] = Unit {0}
+Inside (k ∷ ks) = (parameterOf k ≡ k) × Inside ks
+
+inside-left : (ks ls : List ℕ) → Inside (ks ++ ls) → Inside ks
+inside-left [] ls h = tt
+inside-left (k ∷ ks) ls h = (h .0, inside-left ks ls (h .1))
+
+inside-right : (ks ls : List ℕ) → Inside (ks ++ ls) → Inside ls
+inside-right [] ls h = h
+inside-right (k ∷ ks) ls h = inside-right ks ls (h .1)
+
+pub all-inside : (ks : List ℕ) → (Some (λ k. 1 ≤ k → k ≤ 1_000_000 → ⊥) ks → ⊥) → Inside ks
+all-inside [] f = tt
+all-inside (k ∷ ks) f = (go (leb k 1_000_000) refl, all-inside ks (λ s. f (later s)))
+  where
+    go : (x : Bool) → leb k 1_000_000 ≡ x → cond x k 0 ≡ k
+    go true e = refl
+    go false e = let h : 1_000_000 < k = leb-false k 1_000_000 e in absurd (f (here (λ a b. omega arith)))
+
+-- ---- the definitions of implicit clocks, which have no room in the set of clocks that are defined
+abbrev pub High : List Constraint → Type 0
+High [] = Unit {0}
+High (r ∷ rs) = (32 ≤ r .defined) × High rs
+
+high-more : (rs : List Constraint) (r : Constraint) → High rs → 32 ≤ r .defined → High (rs ++ r ∷ [])
+high-more [] r h k = (k, tt)
+high-more (q ∷ rs) r h k = (h .0, high-more rs r (h .1) k)
+
+-- ---- sums
+add-zero : (m : ℕ) → m + 0 ≡ m
+add-zero m = omega arith
+
+add-suc : (m k : ℕ) → m + k + 1 ≡ m + suc k
+add-suc m k = omega arith
+
+rooms : (m a b : ℕ) → m + suc (a + b) ≤ 32 → (m + a ≤ 32) × (m + a + b ≤ 32) × (m + (a + b) < 32)
+rooms m a b h = (omega arith, omega arith, omega arith)
+
+room-one : (m a : ℕ) → m + suc a ≤ 32 → (m + a ≤ 32) × (m + a < 32)
+room-one m a h = (omega arith, omega arith)
+
+-- ---- on line n, with names us whose numbers the table has
+module _ (t : List ℕ) (ns : Names) (us : Words) (n : ℕ) (number : (w : Word) → oneOf us w ≡ true → clockNamed t ns w ≡ standing us w) where
+  -- m implicit clocks so far, j of them the line's, with these definitions
+  pub record Stands (s : Inner) (m j : ℕ) (ds : List Constraint) : Type 0 where
+    pub clocks : s .clocks ≡ m
+    pub count : s .count ≡ j
+    pub fewer : j ≤ m
+    pub room : length (s .records) ≡ 32
+    pub records : map (onItsLine n) (definitions s) ≡ ds
+    pub high : High (definitions s)
+
+  pub stands-first : (m : ℕ) → Stands (noInner m) m 0 []
+  stands-first m = record { clocks = refl; count = refl; fewer = omega arith; room = refl; records = refl; high = tt }
+
+  -- one more
+  with-stands : (s : Inner) (m j : ℕ) (ds : List Constraint) (r : Constraint) → Stands s m j ds → m < 32 → Stands (withImplicit s r) (m + 1) (j + 1) (ds ++ onItsLine n (defining (32 + m) r) ∷ [])
+  with-stands s m j ds r h k =
+      let e : leb 32 (s .count) ≡ false = lt-leb 32 (s .count) (omega (arith, h .count, h .fewer)) in
+      let c : ltb (s .clocks) 33 ≡ true = lt-ltb (s .clocks) 33 (omega (arith, h .clocks)) in
+      let d : definitions (record { clocks = s .clocks + 1; records = set (s .records) (s .count) (defining (32 + s .clocks) r); count = s .count + 1 }) ≡ definitions s ++ defining (32 + s .clocks) r ∷ [] =
+      rw (add-one (s .count)) (take-suc-set (s .records) (s .count) (defining (32 + s .clocks) r) (omega (arith, h .count, h .fewer, h .room))) in
+      rw (e, c) (record {
+        clocks = ap (λ (i : ℕ). i + 1) (h .clocks);
+        count = ap (λ (i : ℕ). i + 1) (h .count);
+        fewer = omega (arith, h .fewer);
+        room = length-set (s .records) (s .count) _ ∙ h .room;
+        records = ap (map (onItsLine n)) d ∙ map-append (onItsLine n) (definitions s) (defining (32 + s .clocks) r ∷ []) ∙ rw (h .records, h .clocks);
+        high = subst High (sym d) (high-more (definitions s) (defining (32 + s .clocks) r) (h .high) (omega arith));
+      })
+
+  -- ---- operands
+  record IsPlaced (x : Operand) (s : Inner) (m j : ℕ) (ds : List Constraint) : Type 0 where
+    clock : placed t ns s x .clock ≡ clockOf us 32 n m x
+    left : Stands (placed t ns s x .left) (m + implicits x) (j + implicits x) (ds ++ operandRecords us 32 n m x)
+
+  -- the same table by other sums and lists
+  stands-as : (s : Inner) (m l j i : ℕ) (ds es : List Constraint) → m ≡ l → j ≡ i → ds ≡ es → Stands s m j ds → Stands s l i es
+  stands-as s m l j i ds es p q r h = rw (← p, ← q, ← r) h
+
+  module _ (x y : Operand) (s : Inner) (m j : ℕ) (ds : List Constraint) where
+    -- two operands, one behind the other
+    record Both : Type 0 where
+      first : placed t ns s x .clock ≡ clockOf us 32 n m x
+      second : placed t ns (placed t ns s x .left) y .clock ≡ clockOf us 32 n (m + implicits x) y
+      left : Stands (placed t ns (placed t ns s x .left) y .left) (m + (implicits x + implicits y)) (j + (implicits x + implicits y)) (ds ++ (operandRecords us 32 n m x ++ operandRecords us 32 n (m + implicits x) y))
+
+    both-placed : IsPlaced x s m j ds → IsPlaced y (placed t ns s x .left) (m + implicits x) (j + implicits x) (ds ++ operandRecords us 32 n m x) → Both
+    both-placed p q = record {
+      first = p .clock;
+      second = q .clock;
+      left = stands-as _ (m + implicits x + implicits y) (m + (implicits x + implicits y)) (j + implicits x + implicits y) (j + (implicits x + implicits y)) _ _ (omega arith) (omega arith) (append-assoc ds (operandRecords us 32 n m x) (operandRecords us 32 n (m + implicits x) y)) (q .left);
+    }
+
+  -- a right side in parentheses, of which this is the record
+  inside-stands : (f : Formed Inner) (m j : ℕ) (ds es : List Constraint) (r : Constraint) → m < 32 → onItsLine n (defining (32 + m) (f .constraint)) ≡ r → Stands (f .left) m j (ds ++ es)
+      → (enclosed f .clock ≡ 32 + m) × Stands (enclosed f .left) (m + 1) (j + 1) (ds ++ (es ++ r ∷ []))
+  inside-stands f m j ds es r k e h =
+      let c : ltb m 33 ≡ true = lt-ltb m 33 (omega arith) in
+      (rw (h .clocks, c), subst (Stands (enclosed f .left) (m + 1) (j + 1)) (append-assoc ds es _ ∙ ap (λ (z : Constraint). ds ++ (es ++ z ∷ [])) e) (with-stands (f .left) m j (ds ++ es) (f .constraint) h k))
+
+  both-record : (d : Definition) (a b v w c : ℕ) → a ≡ v → b ≡ w → onItsLine n (defining c (sides (Defines d) a b (record { 0 = 0 }))) ≡ record { kind = Defines d; defined = c; first = v; second = w; parameter = record { 0 = 0 }; line = record { 0 = n } }
+  both-record d a b v w c p q = rw (p, q)
+
+  await-record : (a v c k l : ℕ) → a ≡ v → k ≡ l → onItsLine n (defining c (sides (Defines AwaitKind) a 0 (record { 0 = k }))) ≡ record { kind = Defines AwaitKind; defined = c; first = v; second = 0; parameter = record { 0 = l }; line = record { 0 = n } }
+  await-record a v c k l p q = rw (p, q)
+
+  placed-stands : (x : Operand) (s : Inner) (m j : ℕ) (ds : List Constraint) → AllOf us (operandNames x) → Inside (operandNumbers x) → m + implicits x ≤ 32 → Stands s m j ds → IsPlaced x s m j ds
+  placed-stands (name w) s m j ds a i k h = record {
+    clock = number w (a .0);
+    left = stands-as s m (m + 0) j (j + 0) ds (ds ++ []) (sym (add-zero m)) (sym (add-zero j)) (sym (append-nil ds)) h;
+  }
+  placed-stands (both-inside d x y) s m j ds a i k h =
+      let r = rooms m (implicits x) (implicits y) k in
+      let p = placed-stands x s m j ds (all-left us (operandNames x) (operandNames y) a) (inside-left (operandNumbers x) (operandNumbers y) i) (r .0) h in
+      let q = placed-stands y (placed t ns s x .left) (m + implicits x) (j + implicits x) (ds ++ operandRecords us 32 n m x) (all-right us (operandNames x) (operandNames y) a) (inside-right (operandNumbers x) (operandNumbers y) i) (r .1) (p .left) in
+      let b = both-placed x y s m j ds p q in
+      let e = inside-stands _ (m + (implicits x + implicits y)) (j + (implicits x + implicits y)) ds _ _ (r .2) (both-record d _ _ _ _ _ (b .first) (b .second)) (b .left) in
+      record { clock = e .0; left = stands-as _ _ _ _ _ _ _ (add-suc m (implicits x + implicits y)) (add-suc j (implicits x + implicits y)) refl (e .1) }
+  placed-stands (awaits-inside l x) s m j ds a i k h =
+      let r = room-one m (implicits x) k in
+      let p = placed-stands x s m j ds a (i .1) (r .0) h in
+      let e = inside-stands _ (m + implicits x) (j + implicits x) ds _ _ (r .1) (await-record _ _ _ _ _ (p .clock) (i .0)) (p .left) in
+      record { clock = e .0; left = stands-as _ _ _ _ _ _ _ (add-suc m (implicits x)) (add-suc j (implicits x)) refl (e .1) }
+
+  -- ---- forms
+  pub record IsFormed (f : Form Operand) (s : Inner) (m : ℕ) : Type 0 where
+    pub own : onItsLine n (formOf t ns s f .constraint) ≡ ownRecord us 32 n m f
+    pub left : Stands (formOf t ns s f .left) (m + formImplicits f) (formImplicits f) (formRecords us 32 n m f)
+
+  pub form-stands : (f : Form Operand) (s : Inner) (m : ℕ) → AllOf us (formNames f) → Inside (awaitNumbers f) → m + formImplicits f ≤ 32 → Stands s m 0 [] → IsFormed f s m
+  form-stands (relates k x y) s m a i h g =
+      let p = placed-stands x s m 0 [] (all-left us (operandNames x) (operandNames y) a) (inside-left (operandNumbers x) (operandNumbers y) i) (omega arith) g in
+      let q = placed-stands y (placed t ns s x .left) (m + implicits x) (0 + implicits x) ([] ++ operandRecords us 32 n m x) (all-right us (operandNames x) (operandNames y) a) (inside-right (operandNumbers x) (operandNumbers y) i) (omega arith) (p .left) in
+      let b = both-placed x y s m 0 [] p q in
+      record { own = rw (b .first, b .second); left = stands-as _ _ _ _ _ _ _ refl (omega arith) refl (b .left) }
+  form-stands (defines c (both k x y)) s m a i h g =
+      let p = placed-stands x s m 0 [] (all-left us (operandNames x) (operandNames y) (a .1)) (inside-left (operandNumbers x) (operandNumbers y) i) (omega arith) g in
+      let q = placed-stands y (placed t ns s x .left) (m + implicits x) (0 + implicits x) ([] ++ operandRecords us 32 n m x) (all-right us (operandNames x) (operandNames y) (a .1)) (inside-right (operandNumbers x) (operandNumbers y) i) (omega arith) (p .left) in
+      let b = both-placed x y s m 0 [] p q in
+      record { own = rw (number c (a .0), b .first, b .second); left = stands-as _ _ _ _ _ _ _ refl (omega arith) refl (b .left) }
+  form-stands (defines c (awaits l x)) s m a i h g =
+      let p = placed-stands x s m 0 [] (a .1) (i .1) (omega arith) g in
+      record { own = rw (number c (a .0), p .clock, i .0); left = stands-as _ _ _ _ _ _ _ refl (omega arith) refl (p .left) }

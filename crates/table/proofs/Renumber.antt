@@ -1,0 +1,61 @@
+-- Records whose implicit clocks begin at 32 are, renumbered, those whose implicit clocks begin behind the names. Assumes nothing.
+use mathlib.Core.Path.{_≡_, refl, ap, _∙_}
+use mathlib.Core.Bool.{true}
+use mathlib.Core.List.{List, [], _∷_, _++_, map, map-append}
+use Prim.Native.Nat.{ℕ, _+_, _-_, _≤_, _<_}
+use native.Mathlib.Omega.{arith}
+use borrow.Author.Tests.{lt-ltb, le-ltb}
+use lib.ListN.{length}
+use Rattle.constraint.specs.declared.Constraint.{Constraint}
+use Rattle.grammar.specs.Building.{renumber, renumbered}
+use Rattle.forms.specs.Forms.{Word, Words, oneOf, Right, both, awaits, Form, relates, defines, Operand, name, both-inside, awaits-inside}
+use Rattle.forms.specs.Lines.{standing, implicits, clockOf, sideRecord, operandRecords, formRecords, ownRecord, recordsOf}
+use Rattle.forms.proofs.ClockNames.{AllOf, all-left, all-right, standing-below}
+use Rattle.forms.proofs.FormWords.{operandNames, sideNames, formNames}
+
+module _ (vs : Words) (few : length vs ≤ 32) (n : ℕ) where
+  abbrev N : ℕ
+  N = length vs
+
+  name-still : (w : Word) → oneOf vs w ≡ true → renumber N (standing vs w) ≡ standing vs w
+  name-still w e =
+      let h : standing vs w < length vs = standing-below vs w e in
+      rw (lt-ltb (standing vs w) 32 (omega arith))
+
+  implicit-moved : (j : ℕ) → renumber N (32 + j) ≡ N + j
+  implicit-moved j = rw (le-ltb (32 + j) 32 (omega arith)) (omega arith)
+
+  clock-renumbered : (k : ℕ) (x : Operand) → AllOf vs (operandNames x) → renumber N (clockOf vs 32 n k x) ≡ clockOf vs N n k x
+  clock-renumbered k (name w) a = name-still w (a .0)
+  clock-renumbered k (both-inside d x y) a = implicit-moved (k + (implicits x + implicits y))
+  clock-renumbered k (awaits-inside m x) a = implicit-moved (k + implicits x)
+
+  side-renumbered : (k c e : ℕ) (r : Right Operand) → AllOf vs (sideNames r) → renumber N c ≡ e → renumbered N (sideRecord vs 32 n k c r) ≡ sideRecord vs N n k e r
+  side-renumbered k c e (both d x y) a q = rw (q, clock-renumbered k x (all-left vs (operandNames x) (operandNames y) a), clock-renumbered (k + implicits x) y (all-right vs (operandNames x) (operandNames y) a))
+  side-renumbered k c e (awaits m x) a q = rw (q, clock-renumbered k x a)
+
+  two-renumbered : (ps qs rs ss : List Constraint) → map (renumbered N) ps ≡ rs → map (renumbered N) qs ≡ ss → map (renumbered N) (ps ++ qs) ≡ rs ++ ss
+  two-renumbered ps qs rs ss p q = map-append (renumbered N) ps qs ∙ (λ i. p i ++ q i)
+
+  operand-renumbered : (k : ℕ) (x : Operand) → AllOf vs (operandNames x) → map (renumbered N) (operandRecords vs 32 n k x) ≡ operandRecords vs N n k x
+  operand-renumbered k (name w) a = refl
+  operand-renumbered k (both-inside d x y) a =
+      two-renumbered _ _ _ _
+      (two-renumbered _ _ _ _ (operand-renumbered k x (all-left vs (operandNames x) (operandNames y) a)) (operand-renumbered (k + implicits x) y (all-right vs (operandNames x) (operandNames y) a)))
+      (ap (λ (r : Constraint). r ∷ []) (side-renumbered k (32 + (k + (implicits x + implicits y))) _ (both d x y) a (implicit-moved (k + (implicits x + implicits y)))))
+  operand-renumbered k (awaits-inside m x) a =
+      two-renumbered _ _ _ _ (operand-renumbered k x a) (ap (λ (r : Constraint). r ∷ []) (side-renumbered k (32 + (k + implicits x)) _ (awaits m x) a (implicit-moved (k + implicits x))))
+
+  both-renumbered : (k : ℕ) (x y : Operand) → AllOf vs (operandNames x ++ operandNames y)
+      → map (renumbered N) (operandRecords vs 32 n k x ++ operandRecords vs 32 n (k + implicits x) y) ≡ operandRecords vs N n k x ++ operandRecords vs N n (k + implicits x) y
+  both-renumbered k x y a = two-renumbered _ _ _ _ (operand-renumbered k x (all-left vs (operandNames x) (operandNames y) a)) (operand-renumbered (k + implicits x) y (all-right vs (operandNames x) (operandNames y) a))
+
+  form-renumbered : (k : ℕ) (f : Form Operand) → AllOf vs (formNames f) → (map (renumbered N) (formRecords vs 32 n k f) ≡ formRecords vs N n k f) × (renumbered N (ownRecord vs 32 n k f) ≡ ownRecord vs N n k f)
+  form-renumbered k (relates j x y) a = (both-renumbered k x y a, rw (clock-renumbered k x (all-left vs (operandNames x) (operandNames y) a), clock-renumbered (k + implicits x) y (all-right vs (operandNames x) (operandNames y) a)))
+  form-renumbered k (defines c (both j x y)) a = (both-renumbered k x y (a .1), side-renumbered k (standing vs c) _ (both j x y) (a .1) (name-still c (a .0)))
+  form-renumbered k (defines c (awaits m x)) a = (operand-renumbered k x (a .1), side-renumbered k (standing vs c) _ (awaits m x) (a .1) (name-still c (a .0)))
+
+  pub records-renumbered : (k : ℕ) (f : Form Operand) → AllOf vs (formNames f) → map (renumbered N) (recordsOf vs 32 n k f) ≡ recordsOf vs N n k f
+  records-renumbered k f a =
+      let e = form-renumbered k f a in
+      two-renumbered _ _ _ _ (e .0) (ap (λ (r : Constraint). r ∷ []) (e .1))
