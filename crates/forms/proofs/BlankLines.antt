@@ -10,7 +10,7 @@ use Rattle.limit.specs.declared.Limit.{Limit}
 use Rattle.constraint.proofs.Booleans.{and-l, and-r}
 use Rattle.text.specs.Bytes.{allBytes}
 use Rattle.forms.specs.Forms.{Words, Line, grow, parts, nonempty, wordsOf, Form, Operand, IsOperand, IsForm, coincides, excludes, sub-clock, strictly-precedes, precedes, clock-def}
-use Rattle.forms.specs.Lines.{namesIn, Some, here, later, Filled, Breaks, byte-outside, no-form, long-name, await-number, name-twice, defined-above, many-clocks, many-constraints, BreaksNothing}
+use Rattle.forms.specs.Lines.{namesIn, Some, here, later, Filled, opened, tooDeep, unpaired, Breaks, byte-outside, too-deep, no-partner, no-form, long-name, await-number, name-twice, defined-above, many-clocks, many-constraints, BreaksNothing}
 use Rattle.forms.proofs.SomeLaws.{some-none}
 
 -- ---- the words of a line of spaces, and of another
@@ -66,6 +66,19 @@ unfolding allBytes
 space-inside _ e (here {x = b} {xs = bs} h) = true≢false (ap (λ (c : ℕ). leb 32 c && leb c 126) (sym (eqb-true b 32 (and-l (space b) (allBytes space bs) e))) ∙ h)
 space-inside _ e (later {x = b} {xs = bs} s) = space-inside bs (and-r (space b) (allBytes space bs) e) s
 
+space-opens : (b : ℕ) → space b ≡ true → opened 0 b ≡ 0
+space-opens b e = rw (eqb-true b 32 e)
+
+space-shallow : (l : Line) → allBytes space l ≡ true → tooDeep 0 l ≡ false
+unfolding allBytes tooDeep
+space-shallow [] e = refl
+space-shallow (b ∷ bs) e = rw (space-opens b (and-l (space b) (allBytes space bs) e)) (space-shallow bs (and-r (space b) (allBytes space bs) e))
+
+space-paired : (l : Line) → allBytes space l ≡ true → unpaired 0 l ≡ false
+unfolding allBytes unpaired
+space-paired [] e = refl
+space-paired (b ∷ bs) e = rw (eqb-true b 32 (and-l (space b) (allBytes space bs) e)) (space-paired bs (and-r (space b) (allBytes space bs) e))
+
 pub blank-breaks-nothing : (above : List Line) (l : Line) → allBytes space l ≡ true → BreaksNothing above l
 blank-breaks-nothing above l e m b = go (blank-words l e) b
   where
@@ -74,6 +87,8 @@ blank-breaks-nothing above l e m b = go (blank-words l e) b
 
     go : {m : Limit} → wordsOf l ≡ [] → Breaks above l m → ⊥
     go q (byte-outside s) = space-inside l e s
+    go q (too-deep h) = true≢false (sym h ∙ space-shallow l e)
+    go q (no-partner h) = true≢false (sym h ∙ space-paired l e)
     go q (no-form f n) = f q
     go q (long-name s) = some-none _ (namesIn (wordsOf l)) (names q) s
     go q (await-number h s) = form-filled h q

@@ -1,57 +1,78 @@
 -- Limits in the order of their checks, line by line: a table that is refused is refused in one way, and is not read. Assumes nothing.
-use mathlib.Core.Path.{_≡_, refl, ap, subst}
+use mathlib.Core.Path.{_≡_, refl, sym, ap, subst, _∙_}
 use mathlib.Core.List.{List, [], _∷_, _++_, append-nil, append-assoc}
 use Prim.Native.Nat.{ℕ, zero, suc, _+_, _≤_, _<_}
 use native.Mathlib.Decide.{decLt}
 use native.Mathlib.Omega.{arith}
-use lib.ListN.{length}
+use lib.ListN.{length, getD}
 use Rattle.limit.specs.Limit.{numberOf}
 use Rattle.limit.specs.declared.Limit.{Limit}
 use Rattle.limit.specs.declared.Limit.the-variants.{LineByte, TableConstraints}
-use Rattle.limit.proofs.Numbers.{numbers-differ}
 use Rattle.forms.specs.Forms.{Line, linesOf}
-use Rattle.forms.specs.Lines.{Breaks, byte-outside, no-form, long-name, await-number, name-twice, defined-above, many-clocks, many-constraints, BreaksNothing, NothingBroken, TableRefuses, too-long, by-line, TableReads}
+use Rattle.forms.specs.Lines.{lineChecks, turn, Breaks, byte-outside, too-deep, no-partner, no-form, long-name, await-number, name-twice, defined-above, many-clocks, many-constraints, BreaksNothing, NothingBroken, TableRefuses, too-long, by-line, TableReads}
 
--- ---- one line: no limit below a number is broken
+-- ---- one line: no limit is broken whose check comes before a turn
 abbrev pub Clear : List Line → Line → ℕ → Type 0
-Clear above l n = (k : Limit) → numberOf k < n → Breaks above l k → ⊥
+Clear above l n = (k : Limit) → turn k < n → Breaks above l k → ⊥
+
+-- the check that has a turn
+abbrev pub checkAt : ℕ → Limit
+checkAt n = getD lineChecks n LineByte
 
 module _ (above : List Line) (l : Line) where
-  line-limits : {m : Limit} → Breaks above l m → (numberOf LineByte ≤ numberOf m) × (numberOf m ≤ numberOf TableConstraints)
-  line-limits (byte-outside s) = omega arith
-  line-limits (no-form f n) = omega arith
-  line-limits (long-name s) = omega arith
-  line-limits (await-number h s) = omega arith
-  line-limits (name-twice a b d n e) = omega arith
-  line-limits (defined-above d s) = omega arith
-  line-limits (many-clocks f h) = omega arith
-  line-limits (many-constraints f h) = omega arith
+  -- what a line breaks is one of the checks of a line
+  pub line-limits : {m : Limit} → Breaks above l m → checkAt (turn m) ≡ m
+  line-limits (byte-outside s) = refl
+  line-limits (too-deep h) = refl
+  line-limits (no-partner h) = refl
+  line-limits (no-form f n) = refl
+  line-limits (long-name s) = refl
+  line-limits (await-number h s) = refl
+  line-limits (name-twice a b d n e) = refl
+  line-limits (defined-above d s) = refl
+  line-limits (many-clocks f h) = refl
+  line-limits (many-constraints f h) = refl
 
-  pub clear-first : Clear above l (numberOf LineByte)
-  clear-first k h b = omega (arith, line-limits b)
+  same-turn : (m k : Limit) → checkAt (turn m) ≡ m → checkAt (turn k) ≡ k → turn m ≡ turn k → m ≡ k
+  same-turn m k p q e = sym p ∙ ap checkAt e ∙ q
 
-  pub clear-next : (m : Limit) → Clear above l (numberOf m) → (Breaks above l m → ⊥) → Clear above l (suc (numberOf m))
-  clear-next m c f k h b = go (decLt (numberOf k) (numberOf m))
+  pub clear-first : Clear above l (turn LineByte)
+  clear-first k h b = omega arith
+
+  pub clear-next : (m : Limit) → checkAt (turn m) ≡ m → Clear above l (turn m) → (Breaks above l m → ⊥) → Clear above l (suc (turn m))
+  clear-next m e c f k h b = go (decLt (turn k) (turn m))
     where
-      go : Dec (numberOf k < numberOf m) → ⊥
+      go : Dec (turn k < turn m) → ⊥
       go (yes j) = c k j b
-      go (no j) = f (subst (Breaks above l) (numbers-differ k m (omega arith)) b)
+      go (no j) = f (subst (Breaks above l) (same-turn k m (line-limits b) e (omega arith)) b)
 
-  pub clear-last : Clear above l (suc (numberOf TableConstraints)) → BreaksNothing above l
-  clear-last c m b = c m (omega (arith, line-limits b)) b
-
-  one-limit : (m k : Limit) → Breaks above l m → Clear above l (numberOf m) → Breaks above l k → Clear above l (numberOf k) → numberOf m ≡ numberOf k
-  one-limit m k b c d e = go (decLt (numberOf m) (numberOf k)) (decLt (numberOf k) (numberOf m))
+  pub clear-last : Clear above l (suc (turn TableConstraints)) → BreaksNothing above l
+  clear-last c m b = c m (last-turn b) b
     where
-      go : Dec (numberOf m < numberOf k) → Dec (numberOf k < numberOf m) → numberOf m ≡ numberOf k
+      last-turn : {m : Limit} → Breaks above l m → turn m < suc (turn TableConstraints)
+      last-turn (byte-outside s) = omega arith
+      last-turn (too-deep h) = omega arith
+      last-turn (no-partner h) = omega arith
+      last-turn (no-form f n) = omega arith
+      last-turn (long-name s) = omega arith
+      last-turn (await-number h s) = omega arith
+      last-turn (name-twice a b d n e) = omega arith
+      last-turn (defined-above d s) = omega arith
+      last-turn (many-clocks f h) = omega arith
+      last-turn (many-constraints f h) = omega arith
+
+  one-limit : (m k : Limit) → Breaks above l m → Clear above l (turn m) → Breaks above l k → Clear above l (turn k) → numberOf m ≡ numberOf k
+  one-limit m k b c d e = go (decLt (turn m) (turn k)) (decLt (turn k) (turn m))
+    where
+      go : Dec (turn m < turn k) → Dec (turn k < turn m) → numberOf m ≡ numberOf k
       go (yes h) y = absurd (e m h b)
       go (no h) (yes j) = absurd (c k j d)
-      go (no h) (no j) = omega arith
+      go (no h) (no j) = ap numberOf (same-turn m k (line-limits b) (line-limits d) (omega arith))
 
 -- ---- lines below others: the one with the index k, from 0, breaks m first of all
 abbrev pub Stops : (above lines : List Line) → Limit → ℕ → Type 0
 Stops above [] m k = ⊥
-Stops above (l ∷ ls) m zero = Breaks above l m × Clear above l (numberOf m)
+Stops above (l ∷ ls) m zero = Breaks above l m × Clear above l (turn m)
 Stops above (l ∷ ls) m (suc k) = BreaksNothing above l × Stops (above ++ l ∷ []) ls m k
 
 one-stop : (above lines : List Line) (m n : Limit) (j k : ℕ) → Stops above lines m j → Stops above lines n k → (numberOf m ≡ numberOf n) × (j ≡ k)
@@ -75,7 +96,7 @@ record Parted (above lines : List Line) (m : Limit) (k : ℕ) : Type 0 where
   place : lines ≡ before ++ it ∷ behind
   held : NothingBroken above before
   broken : Breaks (above ++ before) it m
-  first : Clear (above ++ before) it (numberOf m)
+  first : Clear (above ++ before) it (turn m)
   index : length before ≡ k
 
 parted : (above lines : List Line) (m : Limit) (k : ℕ) → Stops above lines m k → Parted above lines m k
@@ -95,7 +116,7 @@ parted above (l ∷ ls) m (suc k) s =
       index = ap suc (h .index);
     }
 
-stops-there : (above before behind : List Line) (l : Line) (m : Limit) → NothingBroken above before → Breaks (above ++ before) l m → Clear (above ++ before) l (numberOf m) → Stops above (before ++ l ∷ behind) m (length before)
+stops-there : (above before behind : List Line) (l : Line) (m : Limit) → NothingBroken above before → Breaks (above ++ before) l m → Clear (above ++ before) l (turn m) → Stops above (before ++ l ∷ behind) m (length before)
 unfolding NothingBroken
 stops-there above [] behind l m h b c = (rw append-nil at b, rw append-nil at c)
 stops-there above (x ∷ before) behind l m h b c = (h .0, stops-there (above ++ x ∷ []) before behind l m (h .1) (rw append-assoc b) (rw append-assoc c))
@@ -108,7 +129,7 @@ stops-refuses t h m k s =
     rw (← e) (by-line (p .before) (p .behind) (p .it) h (p .place) (p .held) (p .broken) (p .first))
 
 module _ (t : List ℕ) where
-  by-line-stops : (above below : List Line) (l : Line) (m : Limit) → linesOf t ≡ above ++ l ∷ below → NothingBroken [] above → Breaks above l m → Clear above l (numberOf m) → Stops [] (linesOf t) m (length above)
+  by-line-stops : (above below : List Line) (l : Line) (m : Limit) → linesOf t ≡ above ++ l ∷ below → NothingBroken [] above → Breaks above l m → Clear above l (turn m) → Stops [] (linesOf t) m (length above)
   by-line-stops above below l m e h b c = rw e (stops-there [] above below l m h b c)
 
   pub refused-once : {n p m q : ℕ} → TableRefuses t n p → TableRefuses t m q → (n ≡ m) × (p ≡ q)

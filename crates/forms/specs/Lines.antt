@@ -1,14 +1,14 @@
 -- What the lines of a table break, and what they say, apart from any reader: document 01, the first two rows of "Where each refusal is
--- checked", 11 to 18 each a row over the text alone; and the records of a table that breaks nothing. Assumes nothing.
+-- checked", 11 to 18 each a row over the text alone, and document 02's 19 and 20; and the records of a table that breaks nothing. Assumes nothing.
 use mathlib.Core.Path.{_≡_, refl}
-use mathlib.Core.Bool.{false, cond, _&&_}
+use mathlib.Core.Bool.{Bool, true, false, not, cond, _&&_, _||_}
 use mathlib.Core.List.{List, [], _∷_, _++_, map}
-use Prim.Native.Nat.{ℕ, suc, _+_, _≤_, _<_}
-use lib.Dec.{leb}
-use lib.ListN.{length}
+use Prim.Native.Nat.{ℕ, suc, _+_, _-_, _≤_, _<_}
+use lib.Dec.{eqb, ltb, leb}
+use lib.ListN.{length, replicate}
 use Rattle.limit.specs.Limit.{numberOf}
 use Rattle.limit.specs.declared.Limit.{Limit}
-use Rattle.limit.specs.declared.Limit.the-variants.{TableLength, LineByte, LineForm, NameLength, AwaitNumber, ClockTwice, DefinedTwice, TableClocks, TableConstraints}
+use Rattle.limit.specs.declared.Limit.the-variants.{TableLength, LineByte, NestingDepth, Unpaired, LineForm, NameLength, AwaitNumber, ClockTwice, DefinedTwice, TableClocks, TableConstraints}
 use Rattle.constraint.specs.declared.Constraint.{Constraint}
 use Rattle.constraint.specs.declared.Definition.the-variants.{Union, Await, Upto}
 use Rattle.constraint.specs.declared.Kind.the-variants.{Relates, Defines}
@@ -68,6 +68,22 @@ abbrev pub awaitNumbers : Form Operand → List ℕ
 awaitNumbers (relates k x y) = operandNumbers x ++ operandNumbers y
 awaitNumbers (defines c r) = operandNumbers (inner r)
 
+-- ---- parentheses from left to right, whatever stands between them; k stand open
+
+-- behind a byte: a closer without partner closes none
+abbrev pub opened : (k byte : ℕ) → ℕ
+opened k b = cond (eqb b 40) (suc k) (cond (eqb b 41) (k - 1) k)
+
+-- over sixteen stand open somewhere
+unfoldable pub tooDeep : (k : ℕ) → Line → Bool
+tooDeep k [] = false
+tooDeep k (b ∷ bs) = ltb 16 (opened k b) || tooDeep (opened k b) bs
+
+-- one has no partner: a closer where none stands open, or an opener at the end
+unfoldable pub unpaired : (k : ℕ) → Line → Bool
+unpaired k [] = not (eqb k 0)
+unpaired k (b ∷ bs) = eqb b 41 && eqb k 0 || unpaired (opened k b) bs
+
 -- ---- what a line breaks, below the lines above it. A line without words can break 11 alone
 
 pub data Some {A : Type 0} (P : A → Type 0) : List A → Type 0 where
@@ -85,6 +101,10 @@ DefinesClock c l = (r : Right Operand) × HasForm l (defines c r)
 pub data Breaks (above : List Line) (l : Line) : Limit → Type 0 where
   -- 11 byte outside 32 to 126
   byte-outside : Some (λ b. (leb 32 b && leb b 126) ≡ false) l → Breaks above l LineByte
+  -- 19 over sixteen parentheses stand open
+  too-deep : tooDeep 0 l ≡ true → Breaks above l NestingDepth
+  -- 20 one has no partner
+  no-partner : unpaired 0 l ≡ true → Breaks above l Unpaired
   -- 12 no form fits
   no-form : Filled l → ((f : Form Operand) → HasForm l f → ⊥) → Breaks above l LineForm
   -- 13 name over 16 bytes
@@ -102,6 +122,18 @@ pub data Breaks (above : List Line) (l : Line) : Limit → Type 0 where
 
 -- ---- when a table is refused, and when it is read
 
+-- the checks of a line in their order
+abbrev pub lineChecks : List Limit
+lineChecks = LineByte ∷ NestingDepth ∷ Unpaired ∷ LineForm ∷ NameLength ∷ AwaitNumber ∷ ClockTwice ∷ DefinedTwice ∷ TableClocks ∷ TableConstraints ∷ []
+
+-- how many of some checks come before one
+abbrev pub turnIn : List Limit → Limit → ℕ
+turnIn [] m = 0
+turnIn (k ∷ ks) m = cond (eqb (numberOf k) (numberOf m)) 0 (suc (turnIn ks m))
+
+abbrev pub turn : Limit → ℕ
+turn m = turnIn lineChecks m
+
 abbrev pub BreaksNothing : (above : List Line) → Line → Type 0
 BreaksNothing above l = (m : Limit) → Breaks above l m → ⊥
 
@@ -118,7 +150,7 @@ pub data TableRefuses (t : List ℕ) : (number place : ℕ) → Type 0 where
       → linesOf t ≡ above ++ l ∷ below
       → NothingBroken [] above
       → Breaks above l m
-      → ((k : Limit) → numberOf k < numberOf m → Breaks above l k → ⊥)
+      → ((k : Limit) → turn k < turn m → Breaks above l k → ⊥)
       → TableRefuses t (numberOf m) (length above + 1)
 
 abbrev pub TableReads : List ℕ → Type 0
@@ -212,3 +244,12 @@ nested-counts = refl
 nested-records : map (λ r. r .defined ∷ r .first ∷ r .second ∷ []) (recordsOf (clockNames (nested ∷ [])) 4 1 0 nestedForm) ≡ (4 ∷ 0 ∷ 1 ∷ []) ∷ (5 ∷ 4 ∷ 2 ∷ []) ∷ (0 ∷ 5 ∷ 3 ∷ []) ∷ []
 unfolding standing withLines withNames namesIn parts grow nonempty nameShape oneOf allBytes sameBytes
 nested-records = refl
+
+-- sixteen that stand open, and a seventeenth; behind a closer without partner; as many of both, and none with its partner
+deep : map (tooDeep 0) (replicate 16 40 ∷ replicate 17 40 ∷ (41 ∷ replicate 17 40) ∷ (replicate 16 40 ++ 41 ∷ 40 ∷ []) ∷ []) ≡ false ∷ true ∷ true ∷ false ∷ []
+unfolding tooDeep
+deep = refl
+
+partners : map (unpaired 0) (ascii "(a lub b) = c" ∷ ascii "(a lub b = c" ∷ ascii "a) = b" ∷ ascii ")(" ∷ ascii "()" ∷ []) ≡ false ∷ true ∷ true ∷ true ∷ false ∷ []
+unfolding unpaired
+partners = refl
