@@ -127,9 +127,9 @@ pub all-right : (us vs ws : Words) → AllOf us (vs ++ ws) → AllOf us ws
 all-right us [] ws a = a
 all-right us (v ∷ vs) ws a = all-right us vs ws (a .1)
 
-pub all-kept : (us vs : Words) → Keeps us vs → (ws : Words) → AllOf us ws → AllOf vs ws
-all-kept us vs k [] a = tt
-all-kept us vs k (w ∷ ws) a = (k w (a .0) .0, all-kept us vs k ws (a .1))
+pub all-kept : (us vs ws : Words) → Keeps us vs → AllOf us ws → AllOf vs ws
+all-kept us vs [] k a = tt
+all-kept us vs (w ∷ ws) k a = (k w (a .0) .0, all-kept us vs ws k (a .1))
 
 pub names-have : (us ws : Words) → AllOf (withNames us ws) ws
 unfolding withNames

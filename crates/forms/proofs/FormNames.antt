@@ -7,7 +7,7 @@ use Prim.Native.Nat.{ℕ, _+_}
 use Rattle.constraint.specs.declared.Constraint.{Constraint}
 use Rattle.forms.specs.Forms.{Words, Line, Word, wordsOf, oneOf, Right, both, awaits, Form, relates, defines, Operand, name, both-inside, awaits-inside, levels, HasForm}
 use Rattle.forms.specs.Lines.{namesIn, withNames, withLines, clockNames, Some, here, later, DefinesClock, implicits, clockOf, sideRecord, operandRecords, recordsOf}
-use Rattle.forms.proofs.ClockNames.{Keeps, AllOf, all-left, all-right, names-have, lines-keep, names-more}
+use Rattle.forms.proofs.ClockNames.{Keeps, AllOf, all-left, all-right, all-kept, names-have, lines-keep, names-more}
 use Rattle.forms.proofs.FormWords.{operandNames, formNames, form-names}
 
 -- ---- they are all among the names with those of the line
@@ -17,10 +17,15 @@ form-named us l f h = subst (AllOf (withNames us (namesIn (wordsOf l)))) (form-n
 pub line-named : (above : List Line) (l : Line) (f : Form Operand) → HasForm l f → AllOf (clockNames (above ++ l ∷ [])) (formNames f)
 line-named above l f h = rw (names-more [] above l) (form-named (clockNames above) l f h)
 
+-- and among those with more lines below it
+pub lines-named : (us : Words) (l : Line) (ls : List Line) (f : Form Operand) → HasForm l f → AllOf (withLines us (l ∷ ls)) (formNames f)
+unfolding withLines
+lines-named us l ls f h = let vs = withNames us (namesIn (wordsOf l)) in all-kept vs (withLines vs ls) (formNames f) (lines-keep vs ls) (form-named us l f h)
+
 -- a clock that some line defines is among the names of the lines
 pub defined-named : (us : Words) (ls : List Line) (c : Word) → Some (DefinesClock c) ls → oneOf (withLines us ls) c ≡ true
 unfolding withLines
-defined-named us _ c (here {x = l} {xs = ls} d) = lines-keep (withNames us (namesIn (wordsOf l))) ls c (form-named us l (defines c (d .0)) (d .1) .0) .0
+defined-named us _ c (here {x = l} {xs = ls} d) = lines-named us l ls (defines c (d .0)) (d .1) .0
 defined-named us _ c (later {x = l} {xs = ls} s) = defined-named (withNames us (namesIn (wordsOf l))) ls c s
 
 -- ---- names that keep the numbers keep the records

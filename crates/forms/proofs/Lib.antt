@@ -7,7 +7,9 @@ pub mod FormRows
 pub mod FormShapes
 pub mod FormUnique
 pub mod FormWords
+pub mod LinesPass
 pub mod Said
 pub mod SomeLaws
+pub mod SoundForms
 pub mod SplitWords
 pub mod WordLaws

@@ -1,4 +1,5 @@
--- Some element of a list: none of an empty list, one of a list with one more at its end; and some that passes a test. Assumes nothing.
+-- Some element of a list: none of an empty list, one of two lists, one of a list with one more at its end; and some that passes a test. Assumes
+-- nothing.
 use mathlib.Core.Path.{_≡_, refl}
 use mathlib.Core.Logic.{_↔_, _⊎_, inl, inr}
 use mathlib.Core.Bool.{Bool, true, false, _||_, false≢true}
@@ -20,15 +21,22 @@ module _ {A : Type 0} (P : A → Type 0) where
   some-first x xs (here h) = inl h
   some-first x xs (later s) = inr s
 
+  -- ---- of one list behind another
+  pub some-left : (xs ys : List A) → Some P xs → Some P (xs ++ ys)
+  some-left _ ys (here h) = here h
+  some-left _ ys (later {xs = xs} s) = later (some-left xs ys s)
+
+  pub some-right : (xs ys : List A) → Some P ys → Some P (xs ++ ys)
+  some-right [] ys s = s
+  some-right (x ∷ xs) ys s = later (some-right xs ys s)
+
   -- ---- one more at the end
   module _ (x : A) where
     pub some-more : (xs : List A) → Some P xs → Some P (xs ++ x ∷ [])
-    some-more _ (here h) = here h
-    some-more _ (later {xs = xs} s) = later (some-more xs s)
+    some-more xs = some-left xs (x ∷ [])
 
     pub some-last : (xs : List A) → P x → Some P (xs ++ x ∷ [])
-    some-last [] h = here h
-    some-last (y ∷ xs) h = later (some-last xs h)
+    some-last xs h = some-right xs (x ∷ []) (here h)
 
     pub some-cases : (xs : List A) → Some P (xs ++ x ∷ []) → Some P xs ⊎ P x
     some-cases [] s = go (some-first x [] s)

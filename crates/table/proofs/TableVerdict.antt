@@ -30,6 +30,7 @@ use Rattle.forms.proofs.Broken.{Stops, stops-refuses, refused-once, not-both}
 use Rattle.forms.proofs.ClockNames.{names-more, pairs-more, lines-keep, keeps-same, all-kept}
 use Rattle.forms.proofs.FormNames.{line-named, records-kept}
 use Rattle.forms.proofs.FormWords.{formNames, form-pairs}
+use Rattle.forms.proofs.LinesPass.{lines-pass}
 use Rattle.forms.proofs.Said.{said}
 use Rattle.forms.proofs.SplitWords.{Ordered, ordered-to, lines-are, lines-ordered}
 use Rattle.table.specs.Claims.{RefusedExactly, ReadExactly, ReadAs, RecordsAreForms}
@@ -106,7 +107,7 @@ module _ (t : List ℕ) where
         same : map (renumbered (length vs)) (recordsOf us 32 n (pairs above) f) ≡ recordsOf vs (length vs) n (pairs above) f
         same =
             ap (map (renumbered (length vs))) (sym (records-kept us vs (lines-keep us ls) 32 n (pairs above) f (line-named above l f h)))
-            ∙ records-renumbered vs few n (pairs above) f (all-kept us vs (lines-keep us ls) (formNames f) (line-named above l f h))
+            ∙ records-renumbered vs few n (pairs above) f (all-kept us vs (formNames f) (lines-keep us ls) (line-named above l f h))
 
     after-line : (n : ℕ) (rs : List Constraint) (P : Builder → Type 0) (s : Checked Builder) (f : Builder → Checked Table) → Verdict P above l n s
         → ((c : Builder) → P c → (qs : List Constraint) × Added (clockNames (above ++ l ∷ [])) n (pairs above) l rs qs × After (above ++ l ∷ []) (n + 1) ls qs (f c)) → After above n (l ∷ ls) rs (andThen s f)
@@ -183,7 +184,7 @@ module _ (t : List ℕ) where
       (
         record { names = r .names; records = rw (r .records) (r .recorded); implicit = i },
         record {
-          records = rw (r .named, i, r .records) ?;
+          records = rw (r .named, i, r .records) (lines-pass (linesOf t) (r .more) h (r .recorded) (omega (arith, r .clocks)) (omega (arith, r .constraints, ap length (r .records), length-slots (table .count) (table .records))));
           words = ap (λ (rs : List Constraint). brokenWord (slots (table .count) (table .records)) (startWords rs)) (r .unused) ∙ start-passes 1 64 (slots (table .count) (table .records));
           constraints = r .constraints;
           clocks = omega (arith, r .named, i, r .clocks);
