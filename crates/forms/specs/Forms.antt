@@ -125,9 +125,8 @@ unfoldable pub IsOperand : (levels : ℕ) → Words → Operand → Type 0
 IsOperand zero = IsOperandOf (λ ws r. ⊥)
 IsOperand (suc n) = IsOperandOf (IsRight (IsOperand n))
 
--- no line is nested yet
 abbrev pub levels : ℕ
-levels = 0
+levels = 16
 
 -- a line has a form
 abbrev pub HasForm : Line → Form Operand → Type 0
@@ -155,8 +154,8 @@ an-await : HasForm (ascii "c clockDef await 007 a") (defines (ascii "c") (awaits
 unfolding IsOperand parts grow nonempty nameShape oneOf isDigits allBytes sameBytes value
 an-await = clock-def refl (await refl (one-name refl))
 
--- a line of the second course, at two levels
-a-nested-line : IsForm (IsOperand 2) (wordsOf (ascii "((a clockUnion b)upto c) precedes d"))
+-- a line of the second course
+a-nested-line : HasForm (ascii "((a clockUnion b)upto c) precedes d")
     (relates Precedes (inner (both Upto (inner (both Union (name (ascii "a")) (name (ascii "b")))) (name (ascii "c")))) (name (ascii "d")))
 unfolding IsOperand parts grow nonempty nameShape oneOf allBytes sameBytes
 a-nested-line = precedes (in-parentheses (upto (in-parentheses (union (one-name refl) (one-name refl))) (one-name refl))) (one-name refl)

@@ -184,9 +184,9 @@ unfoldable pub operand : List ℕ → Names → (levels : ℕ) → Operands Inne
 operand t ns zero s ws = name t ns s ws
 operand t ns (suc n) s ws = cond (is Open (token t ws)) (andThen (expression t (operand t ns n) s (rest ws)) (inner t)) (name t ns s ws)
 
--- no line is nested yet
+-- sixteen of them: a seventeenth is 19, before any form is asked
 abbrev pub levels : ℕ
-levels = 0
+levels = 16
 
 -- ---- lines
 

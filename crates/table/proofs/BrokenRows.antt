@@ -1,4 +1,4 @@
--- Each check of a line is broken exactly where its row of the limits is: 11 and 13 to 15 by the line, 16 to 18 by the lines above too.
+-- Each check of a line is broken exactly where its row of the limits is: 11, 19, 20 and 13 to 15 by the line, 16 to 18 by the lines above too.
 -- Assumes nothing.
 use mathlib.Core.Path.{_≡_, refl, sym, ap, subst, _∙_}
 use mathlib.Core.Logic.{_↔_}
@@ -9,7 +9,7 @@ use native.Mathlib.Omega.{arith}
 use borrow.Author.Tests.{leb-true, le-leb, ltb-true, lt-ltb}
 use lib.Dec.{leb, ltb}
 use lib.ListN.{length}
-use Rattle.limit.specs.declared.Limit.the-variants.{LineByte, NameLength, AwaitNumber, ClockTwice, DefinedTwice, TableClocks, TableConstraints}
+use Rattle.limit.specs.declared.Limit.the-variants.{LineByte, NestingDepth, Unpaired, NameLength, AwaitNumber, ClockTwice, DefinedTwice, TableClocks, TableConstraints}
 use Rattle.constraint.specs.Meaning.{definedOf}
 use Rattle.constraint.specs.Ticks.{Ticks, any}
 use Rattle.constraint.specs.declared.Relation.{Relation}
@@ -19,7 +19,7 @@ use Rattle.text.specs.declared.Span.{Span}
 use Rattle.grammar.specs.declared.Inner.{Inner}
 use Rattle.grammar.specs.declared.Names.{Names}
 use Rattle.forms.specs.Forms.{Word, Words, Line, wordsOf, oneOf, both, awaits, Form, relates, defines, Operand, IsForm, IsOperand, levels, HasForm}
-use Rattle.forms.specs.Lines.{namesIn, pairsIn, constraintsIn, awaitNumbers, clockNames, pairs, constraints, Some, Filled, DefinesClock, Breaks, byte-outside, long-name, await-number, name-twice, defined-above, many-clocks, many-constraints, standing}
+use Rattle.forms.specs.Lines.{namesIn, pairsIn, constraintsIn, awaitNumbers, clockNames, pairs, constraints, Some, Filled, DefinesClock, tooDeep, unpaired, Breaks, byte-outside, too-deep, no-partner, long-name, await-number, name-twice, defined-above, many-clocks, many-constraints, standing}
 use Rattle.forms.proofs.ClockNames.{Keeps, constraints-more}
 use Rattle.forms.proofs.FormRows.{clockNamed, formOf}
 use Rattle.forms.proofs.FormUnique.{one-form-of}
@@ -36,6 +36,18 @@ module _ (above : List Line) (l : Line) where
     where
       from : Breaks above l LineByte → not (allBytes (inClass Printable) l) ≡ true
       from (byte-outside s) = byte-row l .1 s
+
+  pub row-19 : (tooDeep 0 l ≡ true) ↔ Breaks above l NestingDepth
+  row-19 = (too-deep, from)
+    where
+      from : Breaks above l NestingDepth → tooDeep 0 l ≡ true
+      from (too-deep h) = h
+
+  pub row-20 : (unpaired 0 l ≡ true) ↔ Breaks above l Unpaired
+  row-20 = (no-partner, from)
+    where
+      from : Breaks above l Unpaired → unpaired 0 l ≡ true
+      from (no-partner h) = h
 
   module _ (t : List ℕ) (ws : List Span) (words : said t ws ≡ wordsOf l) where
     pub row-13 : (anyWord (longName t) ws ≡ true) ↔ Breaks above l NameLength

@@ -10,9 +10,8 @@ use borrow.Author.Tests.{ltb-false, leb-false}
 use lib.Dec.{leb}
 use lib.ListN.{length, take, drop, length-take}
 use Rattle.limit.specs.Checked.{Checked, passed, stopped, refuseIf}
-use Rattle.limit.specs.Limit.{numberOf}
 use Rattle.limit.specs.declared.Limit.{Limit}
-use Rattle.limit.specs.declared.Limit.the-variants.{LineByte, LineForm, NameLength, AwaitNumber, ClockTwice, DefinedTwice, TableClocks, TableConstraints}
+use Rattle.limit.specs.declared.Limit.the-variants.{LineByte, NestingDepth, Unpaired, LineForm, NameLength, AwaitNumber, ClockTwice, DefinedTwice, TableClocks, TableConstraints}
 use Rattle.constraint.specs.Meaning.{definedOf}
 use Rattle.constraint.specs.Ticks.{any, bits}
 use Rattle.constraint.specs.declared.Constraint.{Constraint}
@@ -28,16 +27,16 @@ use Rattle.grammar.specs.declared.Builder.{Builder}
 use Rattle.grammar.specs.declared.Inner.{Inner}
 use Rattle.grammar.specs.declared.Names.{Names}
 use Rattle.forms.specs.Forms.{Words, Line, wordsOf, Form, Operand, HasForm, IsForm, IsOperand, levels}
-use Rattle.forms.specs.Lines.{pairsIn, clockNames, pairs, constraints, Filled, Breaks, no-form, await-number, BreaksNothing, formImplicits, recordsOf}
+use Rattle.forms.specs.Lines.{pairsIn, clockNames, pairs, constraints, tooDeep, unpaired, Filled, turn, Breaks, no-form, await-number, BreaksNothing, formImplicits, recordsOf}
 use Rattle.forms.proofs.BlankLines.{blank-words, other-words, blank-breaks-nothing}
-use Rattle.forms.proofs.Broken.{Clear, clear-first, clear-next, clear-last}
+use Rattle.forms.proofs.Broken.{Clear, checkAt, clear-first, clear-next, clear-last}
 use Rattle.forms.proofs.ClockNames.{names-more, pairs-more}
 use Rattle.forms.proofs.FormWords.{form-pairs}
 use Rattle.forms.proofs.FormRows.{formOf, form-sound, no-form-row}
 use Rattle.forms.proofs.Said.{said}
 use Rattle.forms.proofs.SplitWords.{Inside, inside-more, line-bytes, words-are, words-inside, cut-same}
 use Rattle.table.specs.Reader.{anyWord, longName, badNumber, twice, manyClocks, manyConstraints, addLine, formStep, filledStep, blank, lineStep}
-use Rattle.table.proofs.BrokenRows.{one-more, row-11, row-13, row-14, row-15, row-16, row-17, row-18}
+use Rattle.table.proofs.BrokenRows.{one-more, row-11, row-13, row-14, row-15, row-16, row-17, row-18, row-19, row-20}
 use Rattle.table.proofs.LineAdded.{Builds, Added, none-added, one-added, builds-on, blank-builds, number, form-made, form-builds}
 use Rattle.table.proofs.NamesListed.{listed, listed-length, Named, named-in, all-named}
 use Rattle.table.proofs.Placing.{IsFormed, form-clocks}
@@ -46,12 +45,12 @@ use Rattle.table.proofs.Placing.{IsFormed, form-clocks}
 module _ (P : Builder → Type 0) (above : List Line) (l : Line) (n : ℕ) where
   abbrev pub Verdict : Checked Builder → Type 0
   Verdict (passed c) = BreaksNothing above l × P c
-  Verdict (stopped m p) = Breaks above l m × Clear above l (numberOf m) × (p ≡ n)
+  Verdict (stopped m p) = Breaks above l m × Clear above l (turn m) × (p ≡ n)
 
-  check : (x : Bool) (m : Limit) → (x ≡ true) ↔ Breaks above l m → Clear above l (numberOf m) → (s : Checked Builder)
-      → (x ≡ false → Clear above l (suc (numberOf m)) → Verdict s) → Verdict (refuseIf x m n s)
-  check true m r c s k = (r .0 refl, c, refl)
-  check false m r c s k = k refl (clear-next above l m c (λ b. false≢true (r .1 b)))
+  check : (x : Bool) (m : Limit) → checkAt (turn m) ≡ m → (x ≡ true) ↔ Breaks above l m → Clear above l (turn m) → (s : Checked Builder)
+      → (x ≡ false → Clear above l (suc (turn m)) → Verdict s) → Verdict (refuseIf x m n s)
+  check true m e r c s k = (r .0 refl, c, refl)
+  check false m e r c s k = k refl (clear-next above l m e c (λ b. false≢true (r .1 b)))
 
 -- ---- a line l from a to e of a text t, which has the number n
 module _ (t : List ℕ) (a e n : ℕ) (h : a ≤ e) (k : e ≤ length t) (above : List Line) (rs : List Constraint) (b : Builder) (g : Builds t a above rs b) where
@@ -143,9 +142,9 @@ module _ (t : List ℕ) (a e n : ℕ) (h : a ≤ e) (k : e ≤ length t) (above 
           few-of u p q e h = omega arith
 
       -- 18
-      line-fits : Clear above l (numberOf TableConstraints) → Comes (refuseIf (manyConstraints b (made .left)) TableConstraints n (passed (withLine n b ns (made .left) (made .constraint))))
+      line-fits : Clear above l (turn TableConstraints) → Comes (refuseIf (manyConstraints b (made .left)) TableConstraints n (passed (withLine n b ns (made .left) (made .constraint))))
       line-fits c18 =
-          check Next above l n (manyConstraints b (made .left)) TableConstraints (row-18 above l full (b .count) (made .left .count) (g .count) (form-is .left .count ∙ sym (form-pairs levels form))) c18 _ (λ p18 c19. (
+          check Next above l n (manyConstraints b (made .left)) TableConstraints refl (row-18 above l full (b .count) (made .left .count) (g .count) (form-is .left .count ∙ sym (form-pairs levels form))) c18 _ (λ p18 c19. (
             clear-last above l c19,
             record {
               records = rs ++ recordsOf us 32 n (pairs above) f;
@@ -163,41 +162,43 @@ module _ (t : List ℕ) (a e n : ℕ) (h : a ≤ e) (k : e ≤ length t) (above 
               enough c i k p a b h e = omega arith
 
     -- 16, 17 and 18
-    line-added : anyWord (badNumber cut) ws ≡ false → Clear above l (numberOf DefinedTwice) → Comes (addLine n b ns (made .left) (made .constraint))
+    line-added : anyWord (badNumber cut) ws ≡ false → Clear above l (turn DefinedTwice) → Comes (addLine n b ns (made .left) (made .constraint))
     unfolding addLine
     line-added p14 c16 =
-        check Next above l n (any (bits (b .defined)) (definedOf (made .constraint))) DefinedTwice (row-16 above l (bits (b .defined)) (g .marks) cut ns first (named .kept) few f form) c16 _ (λ p16 c17.
-        check Next above l n (manyClocks ns (made .left)) TableClocks (row-17 above l full ns (made .left) (named .over) all-named-once counted) c17 _ (λ p17 c18.
+        check Next above l n (any (bits (b .defined)) (definedOf (made .constraint))) DefinedTwice refl (row-16 above l (bits (b .defined)) (g .marks) cut ns first (named .kept) few f form) c16 _ (λ p16 c17.
+        check Next above l n (manyClocks ns (made .left)) TableClocks refl (row-17 above l full ns (made .left) (named .over) all-named-once counted) c17 _ (λ p17 c18.
         let r = room p17 in
         line-fits (r .0) (r .1) p14 c18))
 
     -- 13, 14 and 15
-    line-formed : (p : Formed Inner) (us : List Span) → p ≡ made → Clear above l (numberOf NameLength) → Comes (formStep cut n b ns ws (parsed p us))
+    line-formed : (p : Formed Inner) (us : List Span) → p ≡ made → Clear above l (turn NameLength) → Comes (formStep cut n b ns ws (parsed p us))
     unfolding formStep
     line-formed p us q c13 =
-        check Next above l n (anyWord (longName cut) ws) NameLength (row-13 above l cut ws words) c13 _ (λ p13 c14.
-        check Next above l n (anyWord (badNumber cut) ws) AwaitNumber (row-14 above l cut ws words f form) c14 _ (λ p14 c15.
-        check Next above l n (anyWord (twice cut) ws) ClockTwice (row-15 above l cut ws words) c15 _ (λ p15 c16.
+        check Next above l n (anyWord (longName cut) ws) NameLength refl (row-13 above l cut ws words) c13 _ (λ p13 c14.
+        check Next above l n (anyWord (badNumber cut) ws) AwaitNumber refl (row-14 above l cut ws words f form) c14 _ (λ p14 c15.
+        check Next above l n (anyWord (twice cut) ws) ClockTwice refl (row-15 above l cut ws words) c15 _ (λ p15 c16.
         rw q (line-added p14 c16))))
 
   module _ (full : Filled l) where
     -- 12
-    line-read : (p : Parsed (Formed Inner)) → formIn cut levels ns first ws ≡ p → Clear above l (numberOf LineForm) → Comes (formStep cut n b ns ws p)
+    line-read : (p : Parsed (Formed Inner)) → formIn cut levels ns first ws ≡ p → Clear above l (turn LineForm) → Comes (formStep cut n b ns ws p)
     unfolding formStep
     line-read noForm q c12 = (no-form full (λ f form. no-form-row cut ns levels first ws .0 q f (subst (λ (vs : Words). IsForm (IsOperand levels) vs f) (sym words) form)), c12, refl)
     line-read (parsed p us) q c12 =
         let r = form-sound cut ns levels first ws p us q in
         let form : HasForm l (r .0) = subst (λ (vs : Words). IsForm (IsOperand levels) vs (r .0)) words (r .1) in
-        line-formed full (r .0) form p us (r .2) (clear-next above l LineForm c12 (fits (r .0) form))
+        line-formed full (r .0) form p us (r .2) (clear-next above l LineForm refl c12 (fits (r .0) form))
       where
         fits : (f : Form Operand) → HasForm l f → Breaks above l LineForm → ⊥
         fits f form (no-form d none) = none f form
 
-    -- 11
+    -- 11, 19 and 20
     line-filled : Comes (filledStep cut n b a)
     line-filled =
-        check Next above l n (not (allBytes (inClass Printable) (drop a cut))) LineByte (rw line (row-11 above l)) (clear-first above l) _ (λ p11 c12.
-        line-read (formIn cut levels ns first ws) refl c12)
+        check Next above l n (not (allBytes (inClass Printable) (drop a cut))) LineByte refl (rw line (row-11 above l)) (clear-first above l) _ (λ p11 c19.
+        check Next above l n (tooDeep 0 (drop a cut)) NestingDepth refl (rw line (row-19 above l)) c19 _ (λ p19 c20.
+        check Next above l n (unpaired 0 (drop a cut)) Unpaired refl (rw line (row-20 above l)) c20 _ (λ p20 c12.
+        line-read (formIn cut levels ns first ws) refl c12)))
 
   pub line-verdict : Comes (lineStep cut n b a)
   line-verdict = go (blank cut a) (ap (allBytes (inClass Space)) (sym line))

@@ -1,17 +1,19 @@
 -- The checks of a line's words, word by word; the checks of a line, one by one; and the lines of a table, line by line.
 -- Assumes nothing.
 use mathlib.Core.Path.{_≡_, refl, sym, ap, _∙_}
-use mathlib.Core.Bool.{Bool, true, false, not, cond, _||_}
+use mathlib.Core.Bool.{Bool, true, false, not, cond, _&&_, _||_}
 use mathlib.Core.List.{List, [], _∷_}
-use Prim.Native.Nat.{ℕ, _+_, _-_, _≤_, _<_}
+use Prim.Native.Nat.{ℕ, suc, _+_, _-_, _≤_, _<_}
 use native.Mathlib.Decide.{decLt}
+use native.Mathlib.Numerals.{add-one}
 use native.Mathlib.Omega.{arith}
 use borrow.Author.Tests.{le-leb, lt-leb, le-ltb, lt-ltb}
-use lib.Dec.{leb}
-use lib.ListN.{length, take, drop}
+use lib.Dec.{eqb, ltb, leb}
+use lib.ListN.{length, take, drop, getD, drop-of-length-le}
+use lib.Seq.{drop-cons}
 use Rattle.limit.specs.Checked.{Checked, passed, stopped, andThen}
 use Rattle.limit.specs.declared.Limit.{Limit}
-use Rattle.limit.specs.declared.Limit.the-variants.{TableLength, LineByte, LineForm, NameLength, AwaitNumber, ClockTwice, DefinedTwice, TableClocks, TableConstraints}
+use Rattle.limit.specs.declared.Limit.the-variants.{TableLength, LineByte, NestingDepth, Unpaired, LineForm, NameLength, AwaitNumber, ClockTwice, DefinedTwice, TableClocks, TableConstraints}
 use Rattle.limit.proofs.CheckLaws.{refuses, allows, stays-stopped, goes-to}
 use Rattle.constraint.specs.Meaning.{definedOf}
 use Rattle.constraint.specs.Ticks.{any, bits}
@@ -21,6 +23,7 @@ use Rattle.text.specs.Split.{span, piecesAt, runEnd}
 use Rattle.text.specs.declared.Class.the-variants.{Newline, Printable}
 use Rattle.text.specs.declared.Span.{Span}
 use Rattle.text.proofs.Runs.{piece-more, piece-last}
+use Rattle.forms.specs.Lines.{opened, tooDeep, unpaired}
 use Rattle.grammar.specs.Building.{start, withLine, finish}
 use Rattle.grammar.specs.Grammar.{Parsed, noForm, parsed, Formed, lineWords}
 use Rattle.grammar.specs.declared.Builder.{Builder}
@@ -74,6 +77,33 @@ module _ (t : List ℕ) (f : Flaws) (ws : List Span) where
 
     pub flaws-on : either f (flawsOf t ws) ≡ either (either f (wordFlaws t w us)) (flawsOf t us)
     flaws-on = ap (either f) flaws-turn ∙ either-assoc f (wordFlaws t w us) (flawsOf t us)
+
+-- ---- parentheses, byte by byte
+pub opened-most : (k b : ℕ) → opened k b ≤ k + 1
+opened-most k b = go (eqb b 40) (eqb b 41)
+  where
+    go : (x y : Bool) → cond x (suc k) (cond y (k - 1) k) ≤ k + 1
+    go true y = omega arith
+    go false true = omega arith
+    go false false = omega arith
+
+module _ (t : List ℕ) (k i : ℕ) where
+  pub deep-done : length t ≤ i → tooDeep k (drop i t) ≡ false
+  unfolding tooDeep
+  deep-done h = rw (drop-of-length-le t h)
+
+  pub paired-done : length t ≤ i → unpaired k (drop i t) ≡ not (eqb k 0)
+  unfolding unpaired
+  paired-done h = rw (drop-of-length-le t h)
+
+  module _ (h : i < length t) where
+    pub deep-on : tooDeep k (drop i t) ≡ (ltb 16 (opened k (getD t i 0)) || tooDeep (opened k (getD t i 0)) (drop (i + 1) t))
+    unfolding tooDeep
+    deep-on = rw (drop-cons t i 0 h, add-one i)
+
+    pub paired-on : unpaired k (drop i t) ≡ (eqb (getD t i 0) 41 && eqb k 0 || unpaired (opened k (getD t i 0)) (drop (i + 1) t))
+    unfolding unpaired
+    paired-on = rw (drop-cons t i 0 h, add-one i)
 
 -- ---- a sum that reaches a number, by what is left of it
 module _ (most one other : ℕ) where
@@ -135,8 +165,16 @@ module _ (t : List ℕ) (n : ℕ) (b : Builder) (from : ℕ) where
   pub refused-11 : allBytes (inClass Printable) (drop from t) ≡ false → filledStep t n b from ≡ stopped LineByte n
   refused-11 e = refuses _ _ _ _ (ap not e)
 
-  pub to-words : allBytes (inClass Printable) (drop from t) ≡ true → filledStep t n b from ≡ wordsStep t n b (lineWords t from)
-  to-words e = allows _ _ _ _ (ap not e)
+  module _ (p11 : allBytes (inClass Printable) (drop from t) ≡ true) where
+    pub refused-19 : tooDeep 0 (drop from t) ≡ true → filledStep t n b from ≡ stopped NestingDepth n
+    refused-19 e = allows _ _ _ _ (ap not p11) ∙ refuses _ _ _ _ e
+
+    module _ (p19 : tooDeep 0 (drop from t) ≡ false) where
+      pub refused-20 : unpaired 0 (drop from t) ≡ true → filledStep t n b from ≡ stopped Unpaired n
+      refused-20 e = allows _ _ _ _ (ap not p11) ∙ (allows _ _ _ _ p19 ∙ refuses _ _ _ _ e)
+
+      pub to-words : unpaired 0 (drop from t) ≡ false → filledStep t n b from ≡ wordsStep t n b (lineWords t from)
+      to-words e = allows _ _ _ _ (ap not p11) ∙ (allows _ _ _ _ p19 ∙ allows _ _ _ _ e)
 
   pub line-blank : blank t from ≡ true → lineStep t n b from ≡ passed b
   line-blank e = rw e

@@ -10,7 +10,7 @@ use Rattle.limit.specs.Checked.{Checked, passed, stopped, refuseIf, andThen}
 use Rattle.limit.specs.Limit.{numberOf}
 use Rattle.limit.specs.declared.Check.{Check}
 use Rattle.limit.specs.declared.Check.the-variants.{Passed, Refused}
-use Rattle.limit.specs.declared.Limit.the-variants.{TableLength, LineByte, LineForm, NameLength, AwaitNumber, ClockTwice, DefinedTwice, TableClocks, TableConstraints}
+use Rattle.limit.specs.declared.Limit.the-variants.{TableLength, LineByte, NestingDepth, Unpaired, LineForm, NameLength, AwaitNumber, ClockTwice, DefinedTwice, TableClocks, TableConstraints}
 use Rattle.constraint.specs.Lists.{slots, brokenRecord, brokenWord, startWords}
 use Rattle.constraint.specs.Meaning.{definedOf}
 use Rattle.constraint.specs.Ticks.{any, bits}
@@ -20,6 +20,7 @@ use Rattle.text.specs.Bytes.{inClass, allBytes, sameBytes}
 use Rattle.text.specs.Split.{bytesOf, piecesAt, front}
 use Rattle.text.specs.declared.Class.the-variants.{Newline, Space, Printable}
 use Rattle.text.specs.declared.Span.{Span}
+use Rattle.forms.specs.Lines.{tooDeep, unpaired}
 use Rattle.grammar.specs.Building.{emptyTable, start, noInner, withLine, finish, clocksIn}
 use Rattle.grammar.specs.Grammar.{Parsed, noForm, parsed, Formed, lineWords, awaitNumber, levels, formIn}
 use Rattle.grammar.specs.Names.{withWords}
@@ -84,9 +85,14 @@ formStep t n b ns ws (parsed f us) =
 abbrev pub wordsStep : List ℕ → ℕ → Builder → List Span → Checked Builder
 wordsStep t n b ws = let ns : Names = withWords t (b .names) ws in formStep t n b ns ws (formIn t levels ns (noInner (b .implicit)) ws)
 
--- 11 byte outside 32 to 126. t is the text up to the line's end, from the line's start
+-- 11 byte outside 32 to 126; 19 over sixteen parentheses stand open; 20 one has no partner. t is the text up to the line's end, from the line's
+-- start
 abbrev pub filledStep : List ℕ → ℕ → Builder → ℕ → Checked Builder
-filledStep t n b from = refuseIf (not (allBytes (inClass Printable) (drop from t))) LineByte n (wordsStep t n b (lineWords t from))
+filledStep t n b from =
+    refuseIf (not (allBytes (inClass Printable) (drop from t))) LineByte n
+    (refuseIf (tooDeep 0 (drop from t)) NestingDepth n
+    (refuseIf (unpaired 0 (drop from t)) Unpaired n
+    (wordsStep t n b (lineWords t from))))
 
 -- blank lines, of spaces alone, mean nothing
 abbrev pub blank : List ℕ → ℕ → Bool

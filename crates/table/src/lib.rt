@@ -1,5 +1,5 @@
-// Table text into records and names, or the first refusal of 10 to 18: document 01, "Table text" and the first two rows of
-// "Where each refusal is checked".
+// Table text into records and names, or the first refusal of 10 to 20: document 01, "Table text" and the first two rows of
+// "Where each refusal is checked"; document 02, M-101.
 
 mod reader;
 
@@ -14,6 +14,12 @@ pub use reader::read_table;
 pub struct TableRead {
     pub outcome: Check,
     pub table: Table,
+}
+
+// Which of the checks 19 and 20 a line fails: over sixteen parentheses stand open; one has no partner.
+pub struct Pairing {
+    pub deep: bool,
+    pub unpaired: bool,
 }
 
 // Which of the checks 13, 14 and 15 some words fail: a name over 16 bytes, an await number outside, a clock named twice.

@@ -1,6 +1,7 @@
 // Lines in their order, each with its checks in theirs, and the whole table.
 use super::Flaws;
 use super::LineRead;
+use super::Pairing;
 use super::TableRead;
 use constraint::Constraint;
 use grammar::Builder;
@@ -25,8 +26,10 @@ use limit::Refusal;
 use text::Class;
 use text::Span;
 ghost use mathlib.Core.Path.{_≡_};
-ghost use Prim.Native.Nat.{_+_};
+ghost use Prim.Native.Nat.{_+_, _<_, _^_};
 ghost use lib.Dec.{leb};
+ghost use lib.ListN.{drop};
+ghost use Rattle.forms.specs.Lines as l;
 ghost use Rattle.limit.specs.Checked.{stopped};
 ghost use Rattle.text.specs.Split.{bytesOf};
 ghost use Rattle.grammar.specs.Grammar.{lineWords};
@@ -34,6 +37,44 @@ ghost use Rattle.grammar.specs.Tokens.{tokenOf};
 ghost use Rattle.grammar.specs.declared.Builder.{Builder};
 ghost use Rattle.table.specs.Answers as a;
 ghost use Rattle.table.specs.Reader as d;
+
+// How many parentheses stand open behind a byte.
+fn opened(many: usize, byte: u8) -> usize
+    requires { ⌜ many + 1 < 2 ^ 64 ⌝ }
+    ensures { λ r. ⌜ r ≡ l.opened many byte ⌝ }
+{
+    if byte == 40 {
+        return many + 1;
+    }
+    if byte != 41 {
+        return many;
+    }
+    if many == 0 {
+        return 0;
+    }
+    many - 1
+}
+
+// Whether the parentheses from an offset on go too deep, or one has no partner.
+fn parentheses(line: &[u8], from: usize) -> Pairing
+    ensures { λ r. ⌜ r ≡ a.pairing (drop from (now (line .entry))) ⌝ }
+{
+    let mut many = 0;
+    let mut deep = false;
+    let mut alone = false;
+    let mut i = from;
+    while i < line.len() {
+        let byte = line[i];
+        alone = alone | ((byte == 41) & (many == 0));
+        many = opened(many, byte);
+        deep = deep | (16 < many);
+        i += 1;
+    }
+    Pairing {
+        deep,
+        unpaired: alone | (many != 0),
+    }
+}
 
 // Whether a word stands again among those from an offset on.
 fn stands_again(line: &[u8], word: Span, from: usize) -> bool
@@ -180,7 +221,7 @@ fn read_words(line: &[u8], builder: Builder, place: Place, from: usize) -> LineR
 {
     let before = builder.names;
     let names = with_words(line, before, from);
-    let form = line_form(line, names, no_inner(builder.implicit), from, 0);
+    let form = line_form(line, names, no_inner(builder.implicit), from, 16);
     let inner = form.inner;
     if !form.fits {
         return refuse(names, inner, Limit::LineForm, place);
@@ -206,6 +247,15 @@ fn read_line(line: &[u8], builder: Builder, place: Place, from: usize) -> LineRe
     if !text::all_from(Class::Printable, line, from) {
         let names = builder.names;
         return refuse(names, no_inner(0), Limit::LineByte, place);
+    }
+    let pairing = parentheses(line, from);
+    if pairing.deep {
+        let names = builder.names;
+        return refuse(names, no_inner(0), Limit::NestingDepth, place);
+    }
+    if pairing.unpaired {
+        let names = builder.names;
+        return refuse(names, no_inner(0), Limit::Unpaired, place);
     }
     read_words(line, builder, place, from)
 }
