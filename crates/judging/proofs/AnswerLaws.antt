@@ -192,7 +192,7 @@ module _ (clocks : Clocks) (rs : List Constraint) (c : Configuration) (f : ℕ) 
 
   -- ---- and back: each case is what the definition gives
 
-  passed : Passes clocks rs (c .words) f → stepOf clocks rs c f ≡ judges
+  pub passed : Passes clocks rs (c .words) f → stepOf clocks rs c f ≡ judges
   unfolding stepOf
   passed ok = rw (ok .records, ok .words, lt-ltb f (2 ^ clocks .named) (ok .ticks))
 

@@ -208,7 +208,7 @@ fails-none k [] ws = refl
 fails-none k (r ∷ rs) [] = refl
 fails-none k (r ∷ rs) (w ∷ ws) = rw (holds-none r w) (fails-none (suc k) rs ws)
 
-moved-none : (rs : List Constraint) (ws : List Word) → moved none rs ws ≡ ws
+pub moved-none : (rs : List Constraint) (ws : List Word) → moved none rs ws ≡ ws
 moved-none [] ws = refl
 moved-none (r ∷ rs) [] = refl
 moved-none (r ∷ rs) (w ∷ ws) = rw (next-none r w, moved-none rs ws)
