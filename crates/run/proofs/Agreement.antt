@@ -1,23 +1,29 @@
--- A run's steps are single steps, as demand 2 has it. And two recordings of one exercise, each of which is judged as the steps in which something
--- ticks alone are. Assumes nothing.
+-- A run's steps are single steps, as demand 2 has it, and their named clocks are the recorded ones. And two recordings of one exercise, each of
+-- which is completed and judged as the steps in which something ticks alone are. Assumes nothing.
 use Prim.Native.Nat.{ℕ}
+use Rattle.grammar.specs.Building.{clocksIn}
 use Rattle.table.proofs.Passes.{every-table-passes}
 use Rattle.table.proofs.TableVerdict.{read-exactly}
-use Rattle.run.specs.Agreement.{RunIsSingleSteps, SameRuns, TwoRecordings}
+use Rattle.run.specs.Agreement.{RunIsSingleSteps, StepsAsRecorded, SameRuns, TwoRecordings}
 use Rattle.run.specs.Judgement.{timed, untimed}
-use Rattle.run.specs.Run.{recordsOf, startOf, tableOf}
+use Rattle.run.specs.Run.{recordsOf, startOf, tableOf, recordedBy}
 use Rattle.run.proofs.Demands.{run-read, demand-2}
-use Rattle.run.proofs.SameExercise.{same-exercise}
+use Rattle.run.proofs.SameExercise.{completed-same, same-exercise}
+use Rattle.run.proofs.SingleSteps.{steps-recorded}
 
 pub run-is-single-steps : RunIsSingleSteps
 run-is-single-steps t r h =
     let j = demand-2 t r h .1 in
     record { accepted = j .accepted; left = j .left; steps = j .steps; count = j .count; configuration = j .words; single = j .single }
 
+pub steps-as-recorded : StepsAsRecorded
+steps-as-recorded t r h = steps-recorded t r (read-exactly t .1 h)
+
 same-runs : (stamp : ℕ → ℕ) → SameRuns stamp
 same-runs stamp t r q h er eq same =
     let e = read-exactly t .1 h in
-    rw (run-read t r e, run-read t q e, er, eq) (same-exercise stamp (recordsOf (tableOf t)) (tableOf t .count) (startOf (tableOf t)) _ _ (every-table-passes t e .words) same)
+    let alike = completed-same stamp (recordsOf (tableOf t)) (clocksIn (tableOf t) .named) (startOf (tableOf t) .words) (recordedBy t r .steps) (recordedBy t q .steps) same in
+    rw (run-read t r e, run-read t q e, er, eq) (same-exercise stamp (recordsOf (tableOf t)) (tableOf t .count) (startOf (tableOf t)) _ _ (every-table-passes t e .words) alike)
 
 pub two-recordings : TwoRecordings
 two-recordings = (same-runs timed, same-runs untimed)

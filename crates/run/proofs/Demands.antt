@@ -14,13 +14,13 @@ use Rattle.table.proofs.TableVerdict.{refused-exactly, read-exactly, records-ar
 use Rattle.recording.specs.Body.{Ending, ended, refusedAt}
 use Rattle.recording.specs.declared.Step.{Step}
 use Rattle.judging.proofs.AnswerLaws.{every-step-answers}
-use Rattle.run.specs.Demands.{Demand1, Demand2, Demand3}
+use Rattle.run.specs.Demands.{Demand1, Demand2, NeverImplicit, Demand3}
 use Rattle.run.specs.Judgement.{Accepted as AllAccepted, Judges, Ends, at-end, fails, past, after}
 use Rattle.run.specs.Refusals.{RunRefuses, by-table, by-reading, by-million}
 use Rattle.run.specs.Run.{Said, SaidDetermines, accepted, violated, refused, endingSaid, ran, runTable, withTable, runOf, zeros, tableOf, readingBy}
 use Rattle.run.specs.declared.Verdict.the-variants.{Accepted, Violated, Refused}
 use Rattle.run.proofs.JudgingLaws.{Split, split, judged-split}
-use Rattle.run.proofs.SingleSteps.{single-steps}
+use Rattle.run.proofs.SingleSteps.{single-steps, names-no-implicit}
 
 -- ---- the run of a table that is refused, and of one that is read
 
@@ -56,6 +56,9 @@ judges t r e =
 
 pub demand-2 : Demand2
 demand-2 t r h = let e = read-exactly t .1 h in (records-are-forms t e, judges t r e)
+
+pub never-implicit : NeverImplicit
+never-implicit t r before later s c h = names-no-implicit t r (read-exactly t .1 h) before later s c
 
 -- ---- demand 1
 

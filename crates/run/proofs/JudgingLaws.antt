@@ -11,6 +11,7 @@ use lib.Seq.{append-snoc, getD-append-seam}
 use Rattle.limit.specs.declared.Place.{Place}
 use Rattle.constraint.specs.Lists.{at, empty, slots, firstNot, brokenWord}
 use Rattle.constraint.specs.Meaning.{holds, nextWord}
+use Rattle.constraint.specs.SamePlace.{recordAt}
 use Rattle.constraint.specs.Ticks.{Ticks, bits}
 use Rattle.constraint.specs.declared.Broken.{Broken}
 use Rattle.constraint.specs.declared.Broken.the-variants.{Nowhere, At}
@@ -138,11 +139,13 @@ module _ (n : ℕ) (rs all : List Constraint) (room : length rs ≤ n) (unused :
         step-held : judged F rs (afterAll all ss) ≡ record { outcome = Held; configuration = afterAll all (ss ++ s ∷ []) }
         step-held = judged-held _ rs (afterAll all ss) (afterAll all (ss ++ s ∷ [])) all-moved none-fails none-past
 
-  line-found : {P : Constraint → Type 0} {r : Constraint} (f : FirstWithout P all r) → lineOf rs (placeOf f) ≡ r .line .0
-  line-found f =
+  record-found : {P : Constraint → Type 0} {r : Constraint} (f : FirstWithout P all r) → recordAt rs (length (f .earlier)) ≡ r
+  record-found f =
       let k = length (f .earlier) in
-      let e : getD rs k empty ≡ _ = sym (getD-slots n rs k room) ∙ ap (λ l. getD l k empty) (sym unused ∙ f .place) ∙ getD-append-seam (f .earlier) _ (f .later) empty in
-      ap (λ (i : ℕ). getD rs i empty .line .0) (omega arith) ∙ ap (λ (c : Constraint). c .line .0) e
+      sym (getD-slots n rs k room) ∙ ap (λ l. getD l k empty) (sym unused ∙ f .place) ∙ getD-append-seam (f .earlier) _ (f .later) empty
+
+  line-found : {P : Constraint → Type 0} {r : Constraint} (f : FirstWithout P all r) → lineOf rs (placeOf f) ≡ r .line .0
+  line-found f = ap (λ (i : ℕ). getD rs i empty .line .0) (omega arith) ∙ ap (λ (c : Constraint). c .line .0) (record-found f)
 
   -- judging, through accepted steps, and at what ends them
   one-more : (ss : List Step) (s : Step) → Reached rs all ss → Every (HoldsAt ss s) all → Every (StaysAt ss s) all → Reached rs all (ss ++ s ∷ [])
@@ -228,6 +231,9 @@ module _ (b : Table) (p : table.Passes b) where
       ∙ a .judges e (x .left)
       ∙ stops 64 (recordsOf b) (b .records) room (p .unused) (a .inside) (x .ends) (length (x .accepted))
 
+  pub words-after : (ss : List Step) (s : Step) → after b (ss ++ s ∷ []) .words ≡ moved (bits (s .ticks)) (recordsOf b) (after b ss .words)
+  words-after = all-moved 64 (recordsOf b) (b .records) room (p .unused)
+
   pub accepted-in-range : (ss : List Step) → Accepted (b .records) ss → brokenWord (recordsOf b) (map (wordAfter ss) (b .records)) ≡ Nowhere
   accepted-in-range ss h = reached ss h .inside
 
@@ -244,6 +250,9 @@ module _ (b : Table) (p : table.Passes b) where
     pub judged-full : {r : Constraint} → Every (HoldsAt ss s) (b .records) → (f : FirstWithout (StaysAt ss s) (b .records) r)
         → judged (bits (s .ticks)) (recordsOf b) (after b ss) ≡ record { outcome = PastMillion (placeOf f); configuration = after b ss }
     judged-full hold f = step-past 64 (recordsOf b) (b .records) room (p .unused) ss s (reached ss h .inside) hold f
+
+  pub record-of-first : {P : Constraint → Type 0} {r : Constraint} (f : FirstWithout P (b .records) r) → recordAt (recordsOf b) (length (f .earlier)) ≡ r
+  record-of-first f = record-found 64 (recordsOf b) (b .records) room (p .unused) f
 
   pub line-of-first : {P : Constraint → Type 0} {r : Constraint} (f : FirstWithout P (b .records) r) → lineOf (recordsOf b) (placeOf f) ≡ r .line .0
   line-of-first f = line-found 64 (recordsOf b) (b .records) room (p .unused) f

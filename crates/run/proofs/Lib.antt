@@ -1,4 +1,5 @@
 pub mod Agreement
+pub mod CompleteLaws
 pub mod Demands
 pub mod JudgingLaws
 pub mod RunLaws

@@ -1,4 +1,4 @@
--- The run step by step is the run: a step that a mark or the end closes, as one turn of what is left to judge. Assumes nothing.
+-- The run step by step is the run: a step that a mark or the end closes, as one turn of what is left to complete and judge. Assumes nothing.
 use mathlib.Core.Path.{_≡_, refl, sym, ap, _∙_}
 use mathlib.Core.Bool.{Bool, true, false, cond}
 use mathlib.Core.List.{List, _∷_}
@@ -7,11 +7,13 @@ use native.Mathlib.Numerals.{add-one}
 use native.Mathlib.Omega.{arith}
 use lib.ListN.{length}
 use Rattle.limit.specs.Limit.{numberOf}
+use Rattle.constraint.specs.Implicit.{completed}
 use Rattle.constraint.specs.Lists.{brokenWord}
 use Rattle.constraint.specs.Ticks.{bits}
 use Rattle.constraint.specs.declared.Broken.the-variants.{Nowhere}
 use Rattle.constraint.specs.declared.Configuration.{Configuration}
 use Rattle.constraint.specs.declared.Constraint.{Constraint}
+use Rattle.grammar.specs.Building.{clocksIn}
 use Rattle.table.specs.Reader as table
 use Rattle.limit.specs.declared.Check.the-variants.{Passed, Refused as Unread}
 use Rattle.table.specs.declared.TableRead.{TableRead}
@@ -26,6 +28,7 @@ use Rattle.recording.specs.Variables.{clockNamed}
 use Rattle.recording.specs.declared.HeaderRead.{HeaderRead}
 use Rattle.recording.proofs.HeaderLaws.{opened-within}
 use Rattle.recording.specs.declared.Step.{Step}
+use Rattle.run.specs.Complete.{completeAll}
 use Rattle.run.specs.StepByStep.{goesOn, on, over, begins, settled, settles, closed, judgeOn, endOf}
 use Rattle.run.specs.Run.{Judging, afterStep, judgeAll, refused, recordsOf, startOf, zeros, ran, runTable, withTable, runOf}
 use Rattle.judging.specs.Step.{judged}
@@ -37,60 +40,61 @@ use Rattle.judging.specs.declared.Outcome.the-variants.{Held, Failed, PastMilli
 use Rattle.run.specs.declared.Verdict.{Verdict}
 use Rattle.run.specs.declared.Verdict.the-variants.{Accepted, Violated, Refused}
 use Rattle.judging.proofs.StepLaws.{judged-in-range}
+use Rattle.run.proofs.CompleteLaws.{judgeRest, one-step}
 
-module _ (rs : List Constraint) (b : Progress) where
+module _ (named : ℕ) (rs : List Constraint) (b : Progress) where
   -- ---- a step that is closed
   module _ (o : Step) where
-    pub closed-none : o .begun ≡ false → closed rs b o ≡ on b
+    pub closed-none : o .begun ≡ false → closed named rs b o ≡ on b
     unfolding closed
     closed-none e = rw e
 
-    pub closed-some : o .begun ≡ true → closed rs b o ≡ settles rs b o (judged (bits (o .ticks)) rs (b .configuration))
+    pub closed-some : o .begun ≡ true → closed named rs b o ≡ settles rs b o (judged (bits (completed named rs (b .configuration .words) (o .ticks))) rs (b .configuration))
     unfolding closed
     closed-some e = rw e
 
     -- what is left to judge after it
     left : Next → Reading → Judging
-    left n g = cond (goesOn (n .verdict)) (judgeOn rs (n .progress) g) (endOf n)
+    left n g = cond (goesOn (n .verdict)) (judgeOn named rs (n .progress) g) (endOf n)
 
-    closed-left : (g : Reading) → judgeOn rs b (closing o g) ≡ left (closed rs b o) g
+    closed-left : (g : Reading) → judgeOn named rs b (closing o g) ≡ left (closed named rs b o) g
     unfolding closed closing left
     closed-left g = go (o .begun)
       where
         j : Judged
-        j = judged (bits (o .ticks)) rs (b .configuration)
+        j = judged (bits (completed named rs (b .configuration .words) (o .ticks))) rs (b .configuration)
 
         step : (p : Outcome) (c : Configuration)
-            → afterStep rs (b .steps .0) o p (b .configuration) c (λ d. judgeAll rs (suc (b .steps .0)) d (g .steps) (g .ending)) ≡ left (settled rs b o p c) g
+            → afterStep rs (b .steps .0) o p (b .configuration) c (λ d. judgeRest named rs (g .ending) (suc (b .steps .0)) d (g .steps)) ≡ left (settled rs b o p c) g
         step Held c = unfold afterStep in rw (add-one (b .steps .0))
         step (Failed p) c = unfold afterStep in refl
         step (PastMillion p) c = unfold afterStep in refl
 
-        go : (x : Bool) → judgeOn rs b (cond x (record { steps = o ∷ g .steps; ending = g .ending }) g) ≡ left (cond x (settles rs b o j) (on b)) g
-        go true = unfold judgeAll in step (j .outcome) (j .configuration)
+        go : (x : Bool) → judgeOn named rs b (cond x (record { steps = o ∷ g .steps; ending = g .ending }) g) ≡ left (cond x (settles rs b o j) (on b)) g
+        go true = one-step named rs (g .ending) (b .steps .0) (b .configuration) o (g .steps) ∙ step (j .outcome) (j .configuration)
         go false = refl
 
-    module _ (n : Next) (q : n ≡ closed rs b o) where
-      pub closed-stop : (g : Reading) → goesOn (n .verdict) ≡ false → judgeOn rs b (closing o g) ≡ endOf n
+    module _ (n : Next) (q : n ≡ closed named rs b o) where
+      pub closed-stop : (g : Reading) → goesOn (n .verdict) ≡ false → judgeOn named rs b (closing o g) ≡ endOf n
       unfolding left
       closed-stop g e = closed-left g ∙ rw (← q, e)
 
-      pub closed-on : (g : Reading) → goesOn (n .verdict) ≡ true → judgeOn rs b (closing o g) ≡ judgeOn rs (n .progress) g
+      pub closed-on : (g : Reading) → goesOn (n .verdict) ≡ true → judgeOn named rs b (closing o g) ≡ judgeOn named rs (n .progress) g
       unfolding left
       closed-on g e = closed-left g ∙ rw (← q, e)
 
       -- the end closes the open step too
-      pub closed-done : judgeOn rs b (closing o (endsWith ended)) ≡ endOf n
+      pub closed-done : judgeOn named rs b (closing o (endsWith ended)) ≡ endOf n
       closed-done = closed-left (endsWith ended) ∙ rw (← q) (go (n .verdict) (n .progress))
         where
           go : (v : Verdict) (d : Progress) → left (record { verdict = v; progress = d }) (endsWith ended) ≡ endOf (record { verdict = v; progress = d })
-          go Accepted d = unfold left judgeAll in refl
+          go Accepted d = unfold left judgeAll completeAll in refl
           go (Violated l t) d = unfold left in refl
           go (Refused f) d = unfold left in refl
 
   -- ---- a word that breaks a limit
-  pub refused-stop : (f : Refusal) → judgeOn rs b (endsWith (refusedAt (f .limit) (f .place .0))) ≡ endOf (over (Refused f) b)
-  unfolding judgeAll
+  pub refused-stop : (f : Refusal) → judgeOn named rs b (endsWith (refusedAt (f .limit) (f .place .0))) ≡ endOf (over (Refused f) b)
+  unfolding judgeAll completeAll
   refused-stop f = refl
 
 -- ---- what every step keeps: words in range, and no more steps than bytes
@@ -99,12 +103,12 @@ pub record Kept (rs : List Constraint) (k : ℕ) (b : Progress) : Type 0 where
   pub ready : brokenWord rs (b .configuration .words) ≡ Nowhere
   pub few : b .steps .0 ≤ k
 
-pub kept-closed : (rs : List Constraint) (b : Progress) (o : Step) → brokenWord rs (b .configuration .words) ≡ Nowhere → Kept rs (b .steps .0 + 1) (closed rs b o .progress)
+pub kept-closed : (named : ℕ) (rs : List Constraint) (b : Progress) (o : Step) → brokenWord rs (b .configuration .words) ≡ Nowhere → Kept rs (b .steps .0 + 1) (closed named rs b o .progress)
 unfolding closed
-kept-closed rs b o e = go (o .begun)
+kept-closed named rs b o e = go (o .begun)
   where
     j : Judged
-    j = judged (bits (o .ticks)) rs (b .configuration)
+    j = judged (bits (completed named rs (b .configuration .words) (o .ticks))) rs (b .configuration)
 
     step : (p : Outcome) (c : Configuration) → brokenWord rs (c .words) ≡ Nowhere → Kept rs (b .steps .0 + 1) (settled rs b o p c .progress)
     step Held c q = record { ready = q; few = omega arith }
@@ -135,11 +139,11 @@ module _ (t r : List ℕ) (q : TableRead) (e : table.told q ≡ table.readTable 
     module _ (h : HeaderRead) (k : headerAs r h ≡ opened (clockNamed t (q .table .names)) (q .table .names .count) r) where
       pub header-refused : (f : Refusal) → h .outcome ≡ Unread f
           → runOf t r ≡ ran (q .table .count) (record { said = refused (numberOf (f .limit)) (f .place .0); steps = 0; configuration = startOf (q .table) })
-      unfolding onward judgeAll
+      unfolding onward judgeAll completeAll
       header-refused f p = table-read ∙ rw (← k, p)
 
       module _ (p : h .outcome ≡ Passed) where
-        pub header-read : runOf t r ≡ ran (q .table .count) (judgeOn (recordsOf (q .table)) (begins (startOf (q .table))) (bodySteps (declared (h .variables)) r unmarked (words r (h .body))))
+        pub header-read : runOf t r ≡ ran (q .table .count) (judgeOn (clocksIn (q .table) .named) (recordsOf (q .table)) (begins (startOf (q .table))) (bodySteps (declared (h .variables)) r unmarked (words r (h .body))))
         unfolding onward
         header-read = table-read ∙ rw (← k, p)
 

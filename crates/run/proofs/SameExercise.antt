@@ -1,27 +1,30 @@
--- Steps in which nothing ticks are accepted and move no word: a recording is judged as the steps in which something ticks alone are, each at its
--- time as it is stamped.
--- Assumes nothing.
-use mathlib.Core.Path.{_≡_, refl, sym, ap, _∙_}
-use mathlib.Core.Bool.{Bool, true, false}
+-- Steps in which nothing ticks are accepted and move no word: a recording is completed and judged as the steps in which something ticks alone are,
+-- each at its time as it is stamped. Assumes nothing.
+use mathlib.Core.Path.{_≡_, refl, sym, ap, ap₂, _∙_}
+use mathlib.Core.Bool.{Bool, true, false, cond}
 use mathlib.Core.List.{List, [], _∷_, map}
 use Prim.Native.Nat.{ℕ, suc}
 use borrow.Author.Tests.{eqb-true}
 use lib.Dec.{eqb}
 use lib.ListN.{take}
+use Rattle.constraint.specs.Implicit.{completed}
 use Rattle.constraint.specs.Lists.{brokenWord}
-use Rattle.constraint.specs.Ticks.{bits}
+use Rattle.constraint.specs.Ticks.{Ticks, bits}
 use Rattle.constraint.specs.declared.Broken.the-variants.{Nowhere}
 use Rattle.constraint.specs.declared.Configuration.{Configuration}
 use Rattle.constraint.specs.declared.Constraint.{Constraint}
+use Rattle.constraint.specs.declared.Word.{Word}
+use Rattle.constraint.proofs.ImplicitLaws.{completed-none}
 use Rattle.constraint.proofs.TickSets.{bits-zero}
 use Rattle.recording.specs.Body.{Ending, ended, Reading}
 use Rattle.recording.specs.declared.Step.{Step}
-use Rattle.run.specs.Judgement.{ticking, bare, SameExercise}
+use Rattle.run.specs.Complete.{completeAll}
+use Rattle.run.specs.Judgement.{ticking, timed, bare, SameExercise}
 use Rattle.run.specs.Run.{Judging, afterStep, judgeAll, ran}
-use Rattle.judging.specs.Step.{judged}
+use Rattle.judging.specs.Step.{moved, judged}
 use Rattle.judging.specs.declared.Outcome.{Outcome}
 use Rattle.judging.specs.declared.Outcome.the-variants.{Held, Failed, PastMillion}
-use Rattle.judging.proofs.StepLaws.{judged-none, judged-in-range}
+use Rattle.judging.proofs.StepLaws.{moved-none, judged-none, judged-in-range}
 
 -- ---- one more step accepted
 
@@ -93,6 +96,34 @@ module _ (stamp : ℕ → ℕ) where
         go : (x : Bool) → eqb (s .ticks) 0 ≡ x → JudgedAlone c ss → JudgedAlone (judged (bits (s .ticks)) rs c .configuration) ss → JudgedAlone c (s ∷ ss)
         go true e stayed moved = empty-step c s ss e h stayed
         go false e stayed moved = ticking-step c s ss e moved
+
+    -- the completed steps in which something ticks are those, as recorded, completed alone: where nothing ticks, no implicit clock does
+    module _ (named : ℕ) where
+      abbrev completedAlone : List Word → List (ℕ × ℕ) → List (ℕ × ℕ)
+      completedAlone ws ps = ticking timed (completeAll named rs ws (map alone ps))
+
+      completed-alone : (ws : List Word) (ss : List Step) → ticking stamp (completeAll named rs ws ss) ≡ completedAlone ws (ticking stamp ss)
+      unfolding completeAll
+      completed-alone ws [] = refl
+      completed-alone ws (s ∷ ss) = go (eqb (s .ticks) 0) refl (λ vs. completed-alone vs ss)
+        where
+          f : ℕ
+          f = completed named rs ws (s .ticks)
+
+          -- the step's tick set in front, where something ticks in it
+          front : ℕ → List (ℕ × ℕ) → List (ℕ × ℕ)
+          front g ps = cond (eqb g 0) ps ((stamp (s .time .0), g) ∷ ps)
+
+          go : (x : Bool) → eqb (s .ticks) 0 ≡ x → ((vs : List Word) → ticking stamp (completeAll named rs vs ss) ≡ completedAlone vs (ticking stamp ss))
+              → front f (ticking stamp (completeAll named rs (moved (bits f) rs ws) ss)) ≡ completedAlone ws (cond x (ticking stamp ss) (stamped s ∷ ticking stamp ss))
+          go true e ih =
+              let z : f ≡ 0 = ap (completed named rs ws) (eqb-true (s .ticks) 0 e) ∙ completed-none named rs ws in
+              let stay : moved (bits f) rs ws ≡ ws = ap (λ (g : ℕ). moved (bits g) rs ws) z ∙ ap (λ (F : Ticks). moved F rs ws) bits-zero ∙ moved-none rs ws in
+              ap₂ (λ (g : ℕ) (vs : List Word). front g (ticking stamp (completeAll named rs vs ss))) z stay ∙ ih ws
+          go false e ih = ap (front f) (ih (moved (bits f) rs ws))
+
+      pub completed-same : (ws : List Word) (ss qs : List Step) → ticking stamp ss ≡ ticking stamp qs → ticking stamp (completeAll named rs ws ss) ≡ ticking stamp (completeAll named rs ws qs)
+      completed-same ws ss qs same = completed-alone ws ss ∙ ap (completedAlone ws) same ∙ sym (completed-alone ws qs)
 
     pub same-exercise : (n : ℕ) (c : Configuration) (g h : Reading) → brokenWord rs (c .words) ≡ Nowhere → ticking stamp (g .steps) ≡ ticking stamp (h .steps)
         → SameExercise stamp g h (ran n (judgeAll rs 0 c (g .steps) ended)) (ran n (judgeAll rs 0 c (h .steps) ended))

@@ -1,14 +1,14 @@
--- The steps of a run are single steps: 59 and 60 let pass what the reader made and what accepted steps leave, and only clocks of the table tick,
--- so that 61 is kept and the single step is judged as the run's step is. Assumes nothing.
+-- The steps of a run are single steps: 59 and 60 let pass what the reader made and what accepted steps leave, 61 the named clocks of a step, which
+-- complete to the run's step, and the single step is judged as that is. Assumes nothing.
 use mathlib.Core.Path.{_≡_, refl, ap, _∙_, subst}
-use mathlib.Core.List.{List, [], _∷_, _++_, append-assoc, nil≢cons}
-use Prim.Native.Nat.{ℕ, _^_, _<_}
-use borrow.Author.Tests.{lt-ltb}
-use Rattle.constraint.specs.Lists.{brokenRecord, brokenWord}
+use mathlib.Core.Bool.{false}
+use mathlib.Core.List.{List, [], _∷_, _++_, map, append-assoc, nil≢cons}
+use Prim.Native.Nat.{ℕ, _%_, _^_}
+use native.Mathlib.Nat.{mod-lt}
+use lib.ListN.{length}
+use lib.Pow.{pow-pos}
+use Rattle.constraint.specs.Implicit.{definesImplicit}
 use Rattle.constraint.specs.Ticks.{bits}
-use Rattle.constraint.specs.declared.Broken.the-variants.{Nowhere}
-use Rattle.constraint.specs.declared.Clocks.{Clocks}
-use Rattle.constraint.specs.declared.Configuration.{Configuration}
 use Rattle.constraint.specs.declared.Constraint.{Constraint}
 use Rattle.grammar.specs.Building.{clocksIn}
 use Rattle.grammar.specs.declared.Table.{Table}
@@ -17,17 +17,14 @@ use Rattle.table.proofs.Passes.{every-table-passes}
 use Rattle.recording.specs.Body.{Ending}
 use Rattle.recording.specs.declared.Step.{Step}
 use Rattle.recording.proofs.StepTicks.{named-clock, one-ticking, reading-ticking}
-use Rattle.judging.specs.Single.{accepted, judgedTold, stepOf}
+use Rattle.judging.specs.Single.{StepTold, accepted, judgedTold}
 use Rattle.judging.specs.Step.{judged}
-use Rattle.run.specs.Judgement.{Accepted, Ends, at-end, fails, past, after, stepOn, Stops, by-record, by-million, SingleSteps}
-use Rattle.run.specs.Run.{Said, violated, recordsOf, tableOf, readingBy}
-use Rattle.run.proofs.JudgingLaws.{accepted-in-range, judged-on, judged-stop, judged-full, line-of-first}
-
--- a step that 59, 60 and 61 let pass is judged
-step-judged : (clocks : Clocks) (rs : List Constraint) (c : Configuration) (f : ℕ) → brokenRecord clocks rs ≡ Nowhere → brokenWord rs (c .words) ≡ Nowhere → f < 2 ^ clocks .count
-    → stepOf clocks rs c f ≡ judgedTold (judged (bits f) rs c)
-unfolding stepOf
-step-judged clocks rs c f p59 p60 p61 = rw (p59, p60, lt-ltb f (2 ^ clocks .count) p61)
+use Rattle.judging.proofs.AnswerLaws.{passed, every-step-answers}
+use Rattle.run.specs.Complete.{asRecorded}
+use Rattle.run.specs.Judgement.{HoldsAt, FirstWithout, Accepted, Ends, at-end, fails, past, after, stepOn, Stops, by-record, by-million, SingleSteps}
+use Rattle.run.specs.Run.{Said, violated, recordsOf, startOf, tableOf, recordedBy, readingBy}
+use Rattle.run.proofs.CompleteLaws.{AllNamed, as-recorded, completes-recorded}
+use Rattle.run.proofs.JudgingLaws.{words-after, accepted-in-range, judged-on, judged-stop, judged-full, record-of-first, line-of-first}
 
 -- the steps before an accepted one are accepted
 accepted-before : (all : List Constraint) (before later : List Step) (s : Step) → Accepted all (before ++ s ∷ later) → Accepted all before
@@ -37,13 +34,33 @@ module _ (t r : List ℕ) (e : table.readTable t .said ≡ table.read) where
   abbrev b : Table
   b = tableOf t
 
+  -- only clocks of the table tick
+  all-named : AllNamed (clocksIn b .named) (recordedBy t r .steps)
+  all-named before later s q =
+      let n = clocksIn b .named in
+      let room = every-table-passes t e .clocks in
+      one-ticking n room before later s (rw q at (reading-ticking n room _ (named-clock t (b .names)) r))
+
+  pub steps-recorded : map (asRecorded (clocksIn b .named)) (readingBy t r .steps) ≡ recordedBy t r .steps
+  steps-recorded = as-recorded (clocksIn b .named) (recordsOf b) (startOf b .words) (recordedBy t r .steps) all-named
+
   -- a step of the recording, after accepted ones, is judged as the single step
-  single-step : (ss before later : List Step) (s : Step) → readingBy t r .steps ≡ before ++ s ∷ later → Accepted (b .records) ss
+  single-step : (ss later : List Step) (s : Step) → readingBy t r .steps ≡ ss ++ s ∷ later → Accepted (b .records) ss
       → stepOn b (after b ss) s ≡ judgedTold (judged (bits (s .ticks)) (recordsOf b) (after b ss))
-  single-step ss before later s q h =
+  single-step ss later s q h =
       let p = every-table-passes t e in
-      let ticks = reading-ticking (b .names .count) (p .clocks) _ (named-clock t (b .names)) r in
-      step-judged (clocksIn b) (recordsOf b) (after b ss) (s .ticks) (p .records) (accepted-in-range b p ss h) (one-ticking (b .names .count) (p .clocks) before later s (rw q at ticks))
+      let n = clocksIn b .named in
+      let f = s .ticks % 2 ^ n in
+      passed (clocksIn b) (recordsOf b) (after b ss) f (record { records = p .records; words = accepted-in-range b p ss h; ticks = mod-lt (s .ticks) (pow-pos n) })
+      ∙ ap (λ (g : ℕ). judgedTold (judged (bits g) (recordsOf b) (after b ss))) (completes-recorded n (recordsOf b) (λ qs. after b qs .words) (words-after b p) [] (recordedBy t r .steps) ss later s all-named q)
+
+  -- the record that stops a run defines no implicit clock, as it stops the single step
+  pub names-no-implicit : (ss later : List Step) (s : Step) (c : Constraint) → readingBy t r .steps ≡ ss ++ s ∷ later → Accepted (b .records) ss → FirstWithout (HoldsAt ss s) (b .records) c
+      → definesImplicit (clocksIn b .named) c ≡ false
+  names-no-implicit ss later s c q h f =
+      let p = every-table-passes t e in
+      let said = ap (λ (x : StepTold). x .said) (single-step ss later s q h ∙ ap judgedTold (judged-stop b p ss s h f)) in
+      rw (record-of-first b p f) at (every-step-answers (clocksIn b) (recordsOf b) (after b ss) _ .never-implicit (length (f .earlier)) said)
 
   stops-at : (ss left : List Step) (x : Ending) (said : Said) → Accepted (b .records) ss → readingBy t r .steps ≡ ss ++ left → Ends (b .records) x ss left said
       → (later : List Step) (s : Step) → left ≡ s ∷ later → Stops b (after b ss) s said
@@ -53,11 +70,11 @@ module _ (t r : List ℕ) (e : table.readTable t .said ≡ table.read) where
       let same : u ≡ s = cc in
       subst (λ (v : Step). Stops b (after b ss) v said) same
       (subst (λ (l : ℕ). Stops b (after b ss) u (violated l (u .time .0))) (line-of-first b p f)
-      (by-record (single-step ss ss us u place h ∙ ap judgedTold (judged-stop b p ss u h f))))
+      (by-record (single-step ss us u place h ∙ ap judgedTold (judged-stop b p ss u h f))))
   stops-at ss left x said h place (past {s = u} {later = us} hold f) later s q =
       let p = every-table-passes t e in
       let same : u ≡ s = cc in
-      subst (λ (v : Step). Stops b (after b ss) v said) same (by-million (single-step ss ss us u place h ∙ ap judgedTold (judged-full b p ss u h hold f)))
+      subst (λ (v : Step). Stops b (after b ss) v said) same (by-million (single-step ss us u place h ∙ ap judgedTold (judged-full b p ss u h hold f)))
 
   pub single-steps : (ss left : List Step) (x : Ending) (said : Said) → Accepted (b .records) ss → readingBy t r .steps ≡ ss ++ left → Ends (b .records) x ss left said → SingleSteps b ss left said
   single-steps ss left x said h place ends = record { each = each; stop = stops-at ss left x said h place ends }
@@ -69,4 +86,4 @@ module _ (t r : List ℕ) (e : table.readTable t .said ≡ table.read) where
           let ok = accepted-before (b .records) before later s all in
           let held = all before later s refl in
           let at : readingBy t r .steps ≡ before ++ s ∷ (later ++ left) = place ∙ ap (λ k. k ++ left) q ∙ append-assoc before (s ∷ later) left in
-          single-step before before (later ++ left) s at ok ∙ ap judgedTold (judged-on b p before s ok (held .0) (held .1))
+          single-step before (later ++ left) s at ok ∙ ap judgedTold (judged-on b p before s ok (held .0) (held .1))

@@ -1,15 +1,17 @@
 -- A run agrees with single steps, and with the run of another recording of the same exercise. The proofs stand in proofs/Agreement.
 -- Assumes nothing.
 use mathlib.Core.Path.{_≡_}
-use mathlib.Core.List.{List, _++_}
+use mathlib.Core.List.{List, _++_, map}
 use Prim.Native.Nat.{ℕ}
 use lib.ListN.{length}
+use Rattle.grammar.specs.Building.{clocksIn}
 use Rattle.grammar.specs.declared.Table.{Table}
 use Rattle.forms.specs.Lines.{TableReads}
 use Rattle.recording.specs.Body.{ended, Reading}
 use Rattle.recording.specs.declared.Step.{Step}
+use Rattle.run.specs.Complete.{asRecorded}
 use Rattle.run.specs.Judgement.{after, SingleSteps, ticking, timed, untimed, SameExercise}
-use Rattle.run.specs.Run.{Told, tableOf, readingBy, runOf}
+use Rattle.run.specs.Run.{Told, tableOf, recordedBy, readingBy, runOf}
 
 -- a run is the single steps on the table's records, one after the other from the start words, as far as they are accepted
 pub record RunSteps (b : Table) (g : Reading) (told : Told) : Type 0 where
@@ -23,15 +25,19 @@ pub record RunSteps (b : Table) (g : Reading) (told : Told) : Type 0 where
 abbrev pub RunIsSingleSteps : Type 0
 RunIsSingleSteps = (t r : List ℕ) → TableReads t → RunSteps (tableOf t) (readingBy t r) (runOf t r)
 
--- two recordings of one exercise, in whose steps the same clocks tick together, steps without ticks left out, have the same verdict and words;
--- where the times of these steps are the same too, the time of a violation is the same
+-- the steps of a run, each with its named clocks alone, are the recorded ones
+abbrev pub StepsAsRecorded : Type 0
+StepsAsRecorded = (t r : List ℕ) → TableReads t → map (asRecorded (clocksIn (tableOf t) .named)) (readingBy t r .steps) ≡ recordedBy t r .steps
+
+-- two recordings of one exercise, in whose steps, as recorded, the same clocks tick together, steps without ticks left out, have the same verdict
+-- and words; where the times of these steps are the same too, the time of a violation is the same
 abbrev pub SameRuns : (stamp : ℕ → ℕ) → Type 0
 SameRuns stamp =
     (t r q : List ℕ)
     → TableReads t
-    → readingBy t r .ending ≡ ended
-    → readingBy t q .ending ≡ ended
-    → ticking stamp (readingBy t r .steps) ≡ ticking stamp (readingBy t q .steps)
+    → recordedBy t r .ending ≡ ended
+    → recordedBy t q .ending ≡ ended
+    → ticking stamp (recordedBy t r .steps) ≡ ticking stamp (recordedBy t q .steps)
     → SameExercise stamp (readingBy t r) (readingBy t q) (runOf t r) (runOf t q)
 
 abbrev pub TwoRecordings : Type 0

@@ -2,14 +2,19 @@
 -- the single step and on the same-place question are those of the crates `judging` and `constraint`, by name. The proofs stand in
 -- proofs/Demands. Assumes nothing.
 use mathlib.Core.Path.{_≡_}
+use mathlib.Core.Bool.{false}
 use mathlib.Core.Logic.{_↔_}
-use mathlib.Core.List.{List}
+use mathlib.Core.List.{List, _∷_, _++_}
 use Prim.Native.Nat.{ℕ}
+use Rattle.constraint.specs.Implicit.{definesImplicit}
 use Rattle.constraint.specs.SamePlace.{SamePlaceRefused, SamePlaceMeant}
+use Rattle.constraint.specs.declared.Constraint.{Constraint}
+use Rattle.grammar.specs.Building.{clocksIn}
 use Rattle.forms.specs.Lines.{TableRefuses, TableReads}
 use Rattle.table.specs.Claims.{ReadAs}
+use Rattle.recording.specs.declared.Step.{Step}
 use Rattle.judging.specs.Answers.{EveryStepAnswers}
-use Rattle.run.specs.Judgement.{Judges}
+use Rattle.run.specs.Judgement.{Accepted, FirstWithout, HoldsAt, Judges}
 use Rattle.run.specs.Refusals.{RunRefuses}
 use Rattle.run.specs.Run as run
 
@@ -25,9 +30,20 @@ pub record Demand1 : Type 0 where
 
 -- 2. Unless a refusal comes first, a recording is accepted up to the first step at which some constraint fails under the operational rules as
 -- document 01 fixes them. The failing constraint highest in the table is named. After each accepted step every word of the configuration is
--- what those rules give. (The constraints are the forms of the table's lines.)
+-- what those rules give. (The constraints are the forms of the table's lines; the ticks of a step are the recorded ones, and those of implicit
+-- clocks that it works out.)
 abbrev pub Demand2 : Type 0
 Demand2 = (t r : List ℕ) → TableReads t → ReadAs t (run.tableOf t) × Judges (run.tableOf t) (run.readingBy t r) (run.runOf t r)
+
+-- A violation never names the definition of an implicit clock: the first constraint that fails in the step after accepted ones defines none.
+abbrev pub NeverImplicit : Type 0
+NeverImplicit =
+    (t r : List ℕ) (accepted later : List Step) (s : Step) (c : Constraint)
+    → TableReads t
+    → run.readingBy t r .steps ≡ accepted ++ s ∷ later
+    → Accepted (run.tableOf t .records) accepted
+    → FirstWithout (HoldsAt accepted s) (run.tableOf t .records) c
+    → definesImplicit (clocksIn (run.tableOf t) .named) c ≡ false
 
 -- 3. For every table and every two configurations of it, each with all words in range, whether or not a run can reach them, the same-place
 -- question says yes exactly when, for every constraint judged by itself and for every continuation, the constraint accepts it from both or from

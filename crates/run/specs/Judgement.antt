@@ -1,5 +1,5 @@
--- What the demands say of a run, in their words: one record through a list of steps, how judging ends, and two recordings of one exercise.
--- Assumes nothing.
+-- What the demands say of a run, in their words: one record through a list of steps, how judging ends, and two recordings of one exercise. A
+-- step of a run has the ticks of implicit clocks too. Assumes nothing.
 use mathlib.Core.Path.{_≡_}
 use mathlib.Core.Bool.{true, cond}
 use mathlib.Core.List.{List, [], _∷_, _++_, map}
@@ -21,6 +21,7 @@ use Rattle.recording.specs.declared.Step.{Step}
 use Rattle.constraint.specs.Million.{inMillion}
 use Rattle.judging.specs.Single as single
 use Rattle.judging.specs.Single.{StepTold, stepOf}
+use Rattle.run.specs.Complete.{asRecorded}
 use Rattle.run.specs.Run.{Said, accepted, violated, refused, Told, lineOf, endingSaid, recordsOf}
 
 -- ---- one record through a list of steps
@@ -71,9 +72,9 @@ pub data Ends (rs : List Constraint) (ending : Ending) (accepted : List Step) : 
 abbrev pub after : Table → List Step → Configuration
 after b ss = record { words = map (wordAfter ss) (b .records) }
 
--- a step of the run, asked as a single step on the table's records
+-- a step of the run, asked as a single step on the table's records: it is handed as it was recorded, and works out the other ticks itself
 abbrev pub stepOn : Table → Configuration → Step → StepTold
-stepOn b c s = stepOf (clocksIn b) (recordsOf b) c (s .ticks)
+stepOn b c s = stepOf (clocksIn b) (recordsOf b) c (asRecorded (clocksIn b .named) s .ticks)
 
 -- the step that stops a run is violated, and the run names the line of its record; or 51, and the run names the step's mark
 pub data Stops (b : Table) (c : Configuration) (s : Step) : Said → Type 0 where

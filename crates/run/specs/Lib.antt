@@ -1,4 +1,5 @@
 pub mod Agreement
+pub mod Complete
 pub mod Demands
 pub mod Judgement
 pub mod Refusals

@@ -13,7 +13,8 @@ use Rattle.recording.specs.declared.Step.{Step}
 use Rattle.run.specs.Judgement.{Accepted, Every, FirstWithout, HoldsAt, StaysAt}
 use Rattle.run.specs.Run.{tableOf, readingBy}
 
--- a run is refused: the table is; or every step that was read is accepted, and reading is refused; or a word leaves its million, 51
+-- a run is refused: the table is; or every step that was read is accepted, and reading is refused; or a word leaves its million, that of a
+-- constraint which defines an implicit clock too, 51
 pub data RunRefuses (t r : List ℕ) : (number place : ℕ) → Type 0 where
   by-table : {n p : ℕ} → TableRefuses t n p → RunRefuses t r n p
   by-reading : {l : Limit} {p : ℕ}

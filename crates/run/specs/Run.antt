@@ -1,7 +1,6 @@
--- The whole run: the table is read, then the recording, and the steps are judged one after the other, up to the first that is not accepted
--- (document 01, "What the monitor does", "Recording" and "Where each refusal is checked"). Assumes nothing.
+-- The whole run: the table is read, then the recording, its steps are completed, and judged one after the other, up to the first that is not
+-- accepted (document 01, "What the monitor does", "Recording" and "Where each refusal is checked"; document 02, M-101). Assumes nothing.
 use mathlib.Core.Path.{_≡_, refl}
-use mathlib.Core.Bool.{true}
 use mathlib.Core.List.{List, [], _∷_}
 use Prim.Native.Nat.{ℕ, suc, _-_}
 use lib.IntN.{ℤ, pos}
@@ -9,12 +8,14 @@ use lib.ListN.{getD, replicate}
 use Rattle.limit.specs.Limit.{numberOf}
 use Rattle.limit.specs.declared.Limit.the-variants.{BodyWord, Million}
 use Rattle.limit.specs.declared.Place.{Place}
+use Rattle.constraint.specs.Implicit.{nestedRecords}
 use Rattle.constraint.specs.Lists.{empty, slots, startWords}
 use Rattle.constraint.specs.Meaning.{word}
 use Rattle.constraint.specs.Ticks.{bits}
 use Rattle.constraint.specs.declared.Configuration.{Configuration}
 use Rattle.constraint.specs.declared.Constraint.{Constraint}
 use Rattle.table.specs.Reader as table
+use Rattle.grammar.specs.Building.{clocksIn}
 use Rattle.grammar.specs.declared.Table.{Table}
 use Rattle.recording.specs.Body.{Ending, ended, refusedAt, Reading, reading}
 use Rattle.recording.specs.Variables.{clockNamed}
@@ -24,6 +25,7 @@ use Rattle.judging.specs.Step.{judged}
 use Rattle.judging.specs.declared.Judged.{Judged}
 use Rattle.judging.specs.declared.Outcome.{Outcome}
 use Rattle.judging.specs.declared.Outcome.the-variants.{Held, Failed, PastMillion}
+use Rattle.run.specs.Complete.{completeAll, mark, nestedSteps}
 use Rattle.run.specs.declared.Report.{Report}
 use Rattle.run.specs.declared.Verdict.{Verdict}
 use Rattle.run.specs.declared.Verdict.the-variants.{Accepted, Violated, Refused}
@@ -97,9 +99,16 @@ zeros = record { words = replicate 64 (word (pos 0)) }
 abbrev pub ran : (constraints : ℕ) → Judging → Told
 ran n j = record { said = j .said; steps = j .steps; constraints = n; configuration = j .configuration }
 
--- the recording as read with the names of a table
+-- the recording as read with the names of a table: what was recorded
+abbrev pub recordedOf : (text : List ℕ) → Table → List ℕ → Reading
+recordedOf t b r = reading (clockNamed t (b .names)) (b .names .count) r
+
+-- its steps with the ticks of implicit clocks, from the start words on
+abbrev pub completedFor : Table → Reading → Reading
+completedFor b g = record { steps = completeAll (clocksIn b .named) (recordsOf b) (startOf b .words) (g .steps); ending = g .ending }
+
 abbrev pub readingOf : (text : List ℕ) → Table → List ℕ → Reading
-readingOf t b r = reading (clockNamed t (b .names)) (b .names .count) r
+readingOf t b r = completedFor b (recordedOf t b r)
 
 abbrev pub runTable : (text : List ℕ) → Table → List ℕ → Told
 runTable t b r = let g : Reading = readingOf t b r in ran (b .count) (judgeAll (recordsOf b) 0 (startOf b) (g .steps) (g .ending))
@@ -112,17 +121,17 @@ withTable t (table.refused n p) b r = record { said = refused n p; steps = 0; co
 abbrev pub runOf : (table recording : List ℕ) → Told
 runOf t r = withTable t (table.readTable t .said) (table.readTable t .table) r
 
--- the table that a text is read as, and the recording as read with its names
+-- the table that a text is read as, and the recording as read with its names, as recorded and with completed steps
 abbrev pub tableOf : List ℕ → Table
 tableOf t = table.readTable t .table
+
+abbrev pub recordedBy : (table recording : List ℕ) → Reading
+recordedBy t r = recordedOf t (tableOf t) r
 
 abbrev pub readingBy : (table recording : List ℕ) → Reading
 readingBy t r = readingOf t (tableOf t) r
 
 -- ---- document 01's example: #0 req; #3; #5 ack and req; #8 ack and done; #9 req and ack. It prints `violated 1 9`, `steps 4`, `config 0 0`
-
-abbrev mark : (time ticks : ℕ) → Step
-mark t f = record { begun = true; mark = record { 0 = 0 }; time = record { 0 = t }; ticks = f }
 
 abbrev from : (w v : ℤ) → Configuration
 from w v = record { words = word w ∷ word v ∷ [] }
@@ -137,3 +146,11 @@ example-run = refl
 four-steps : judgeAll exampleRecords 0 (from (pos 0) (pos 2)) (mark 0 1 ∷ mark 3 0 ∷ mark 5 3 ∷ mark 8 6 ∷ []) (refusedAt BodyWord 77) .said ≡ refused 40 77
 unfolding judgeAll afterStep judged
 four-steps = refl
+
+-- ---- document 02's nested line: it prints `violated 1 7`, `steps 4`, `config 0 0 0`
+
+nested-run :
+    judgeAll nestedRecords 0 (record { words = startWords nestedRecords }) (completeAll 4 nestedRecords (startWords nestedRecords) nestedSteps) ended
+    ≡ record { said = violated 1 7; steps = 4; configuration = record { words = replicate 3 (word (pos 0)) } }
+unfolding judgeAll afterStep judged completeAll
+nested-run = refl

@@ -2,8 +2,9 @@
 -- what Run says. Assumes nothing.
 use mathlib.Core.Bool.{Bool, true, false, cond}
 use mathlib.Core.List.{List}
-use Prim.Native.Nat.{_+_}
+use Prim.Native.Nat.{ℕ, _+_}
 use Rattle.limit.specs.declared.Limit.the-variants.{Million}
+use Rattle.constraint.specs.Implicit.{completed}
 use Rattle.constraint.specs.Ticks.{bits}
 use Rattle.constraint.specs.declared.Configuration.{Configuration}
 use Rattle.constraint.specs.declared.Constraint.{Constraint}
@@ -13,6 +14,7 @@ use Rattle.judging.specs.Step.{judged}
 use Rattle.judging.specs.declared.Judged.{Judged}
 use Rattle.judging.specs.declared.Outcome.{Outcome}
 use Rattle.judging.specs.declared.Outcome.the-variants.{Held, Failed, PastMillion}
+use Rattle.run.specs.Complete.{completeAll}
 use Rattle.run.specs.Run.{Judging, judgeAll, lineOf, said}
 use Rattle.run.specs.declared.Next.{Next}
 use Rattle.run.specs.declared.Progress.{Progress}
@@ -43,13 +45,13 @@ settled rs b s (PastMillion p) c = over (Refused (record { limit = Million; plac
 abbrev pub settles : List Constraint → Progress → Step → Judged → Next
 settles rs b s j = settled rs b s (j .outcome) (j .configuration)
 
--- a step that is closed is judged, where a mark has begun one
-unfoldable pub closed : List Constraint → Progress → Step → Next
-closed rs b s = cond (s .begun) (settles rs b s (judged (bits (s .ticks)) rs (b .configuration))) (on b)
+-- a step that is closed is completed and judged, where a mark has begun one
+unfoldable pub closed : (named : ℕ) → List Constraint → Progress → Step → Next
+closed named rs b s = cond (s .begun) (settles rs b s (judged (bits (completed named rs (b .configuration .words) (s .ticks))) rs (b .configuration))) (on b)
 
--- what is left to judge after what was judged so far
-abbrev pub judgeOn : List Constraint → Progress → Reading → Judging
-judgeOn rs b g = judgeAll rs (b .steps .0) (b .configuration) (g .steps) (g .ending)
+-- what is left to complete and judge, of what was recorded, after what was judged so far
+abbrev pub judgeOn : (named : ℕ) → List Constraint → Progress → Reading → Judging
+judgeOn named rs b g = judgeAll rs (b .steps .0) (b .configuration) (completeAll named rs (b .configuration .words) (g .steps)) (g .ending)
 
 -- a run that is over
 abbrev pub endOf : Next → Judging

@@ -3,6 +3,7 @@ use super::Next;
 use super::Progress;
 use super::Steps;
 use super::Verdict;
+use constraint::Clocks;
 use constraint::Constraint;
 use judging::Judged;
 use judging::Outcome;
@@ -108,10 +109,16 @@ fn settle(
     }
 }
 
-// A step that is closed is judged, where a mark has begun one.
-pub fn close(records: [Constraint; 64], count: usize, progress: Progress, step: Step) -> Next
-    requires { ⌜ Ready records count (progress .configuration .words) × (progress .steps .0 + 1 < 2 ^ 64) ⌝ }
-    ensures { λ r. ⌜ r ≡ f.closed (slots count records) progress step ⌝ }
+// A step that is closed is completed and judged, where a mark has begun one.
+pub fn close(
+    records: [Constraint; 64],
+    count: usize,
+    clocks: Clocks,
+    progress: Progress,
+    step: Step,
+) -> Next
+    requires { ⌜ Ready clocks records count (progress .configuration .words) × (progress .steps .0 + 1 < 2 ^ 64) ⌝ }
+    ensures { λ r. ⌜ r ≡ f.closed (clocks .named) (slots count records) progress step ⌝ }
 {
     if !step.begun {
         return on(progress);
@@ -121,6 +128,6 @@ pub fn close(records: [Constraint; 64], count: usize, progress: Progress, step: 
         count,
         progress,
         step,
-        judge(records, count, progress.configuration, step.ticks),
+        judge(records, count, clocks, progress.configuration, step.ticks),
     )
 }

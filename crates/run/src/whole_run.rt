@@ -7,9 +7,11 @@ use super::Verdict;
 use super::step_by_step::close;
 use super::step_by_step::goes_on;
 use super::step_by_step::over;
+use constraint::Clocks;
 use constraint::Configuration;
 use constraint::Constraint;
 use constraint::Word;
+use grammar::Table;
 use limit::Check;
 use limit::Refusal;
 use recording::ChangesRead;
@@ -19,12 +21,25 @@ ghost use mathlib.Core.Path.{_≡_};
 ghost use Prim.Native.Nat.{_≤_};
 ghost use lib.ListN.{length};
 ghost use Rattle.constraint.specs.Lists.{slots};
+ghost use Rattle.grammar.specs.Building.{clocksIn};
 ghost use Rattle.judging.specs.Code.{Ready};
 ghost use Rattle.recording.specs.Body.{bodySteps, unmarked};
 ghost use Rattle.recording.specs.Header.{words};
 ghost use Rattle.recording.specs.Index.{Indexed, declared};
 ghost use Rattle.run.specs.StepByStep as f;
 ghost use Rattle.run.specs.Run as s;
+
+// A table's clocks.
+fn clocks_in(table: Table) -> Clocks
+    requires { ⌜ clocksIn table .count ≤ 32 ⌝ }
+    ensures { λ r. ⌜ r ≡ clocksIn table ⌝ }
+{
+    let count = table.names.count as u8;
+    Clocks {
+        named: count,
+        count,
+    }
+}
 
 // What a run gives that is over.
 fn report(count: usize, next: Next) -> Report
@@ -48,10 +63,11 @@ fn judge_body(
     variables: Variables,
     records: [Constraint; 64],
     count: usize,
+    clocks: Clocks,
     configuration: Configuration,
 ) -> Report
-    requires { ⌜ (length (now recording) ≤ 65536) × Indexed variables × Ready records count (configuration .words) ⌝ }
-    ensures { λ r. ⌜ s.told r ≡ s.ran count (f.judgeOn (slots count records) (f.begins configuration) (bodySteps (declared variables) (now (recording .entry)) unmarked (words (now (recording .entry)) from))) ⌝ }
+    requires { ⌜ (length (now recording) ≤ 65536) × Indexed variables × Ready clocks records count (configuration .words) ⌝ }
+    ensures { λ r. ⌜ s.told r ≡ s.ran count (f.judgeOn (clocks .named) (slots count records) (f.begins configuration) (bodySteps (declared variables) (now (recording .entry)) unmarked (words (now (recording .entry)) from))) ⌝ }
 {
     let mut progress = Progress {
         configuration,
@@ -74,10 +90,10 @@ fn judge_body(
                 return report(count, over(Verdict::Refused(refusal), progress));
             }
             ChangesRead::End(last) => {
-                return report(count, close(records, count, progress, last));
+                return report(count, close(records, count, clocks, progress, last));
             }
             ChangesRead::Mark(closed, mark) => {
-                let next = close(records, count, progress, closed);
+                let next = close(records, count, clocks, progress, closed);
                 let verdict = next.verdict;
                 if !goes_on(verdict) {
                     return report(count, next);
@@ -138,6 +154,7 @@ pub fn run(table: &[u8], recording: &[u8]) -> Report
         header.variables,
         records,
         read.table.count,
+        clocks_in(read.table),
         configuration,
     )
 }

@@ -11,14 +11,14 @@ returns-2 : tie.Need-returns-2
 returns-2 c =
     let j = c .before .judge in
     let e = c .before .before in
-    c .settle .ensures ∙ ap (settles _ _ _) (j .ensures) ∙ sym (closed-some _ _ _ (not-false _ (e .if1 .left)))
+    c .settle .ensures ∙ ap (settles _ _ _) (j .ensures) ∙ sym (closed-some _ _ _ _ (not-false _ (e .if1 .left)))
 
 pub close-spec : {M : Type 1} → statement M
 close-spec =
     tie.close
     (tie.spec
     (λ c κs. search needs)
-    (λ c. c .on .ensures ∙ sym (closed-none _ _ _ (not-true _ (c .before .if1 .taken))))
+    (λ c. c .on .ensures ∙ sym (closed-none _ _ _ _ (not-true _ (c .before .if1 .taken))))
     (λ c κs. search needs)
     (λ c κs. search needs)
     returns-2)

@@ -1,7 +1,9 @@
 -- `run` meets its contract: the table, the header, then the body. Assumes nothing.
 use mathlib.Core.Path.{sym, ap, _∙_}
 use denote.Ref.{now}
-use Rattle.run.specs.Run.{told}
+use Rattle.constraint.proofs.Demand3.{clocks-pass}
+use Rattle.grammar.specs.Building.{clocksIn}
+use Rattle.run.specs.Run.{told, recordsOf}
 use Rattle.run.proofs.RunLaws.{table-refused, table-passes, header-refused, header-read, header-within}
 use borrow.Author.Needs.{needs}
 use Rattle.run.proofs.whole_run.run.Statement.{statement}
@@ -25,20 +27,27 @@ returns-2 c =
     let q = m .before .before .read-table in
     ap told (c .refused2 .ensures) ∙ rw (h .before .start-words .ensures) (sym (header-refused _ _ (q .result) (q .ensures) (m .enum-told .given .1) (h .read-header .result) (h .read-header .ensures .0) _ (c .before .before .opened .given .1)))
 
-judge-body-requires : tie.Need-judge-body-requires
-judge-body-requires c κs =
+clocks-in-requires : tie.Need-clocks-in-requires
+clocks-in-requires c κs =
     let h = c .before .before in
     let m = h .before .before .before in
     let q = m .before .before .read-table in
-    let p = table-passes _ (now (m .before .before .before .before .before .args .recording)) (q .result) (q .ensures) (m .enum-told .given .1) in
-    (header-within _ _ (q .result) (q .ensures) (m .enum-told .given .1) (h .read-header .result) (h .read-header .ensures .0) (c .enum-told2 .given .1), h .read-header .ensures .1, record { room = p .constraints; inside = rw (h .before .start-words .ensures) (p .words) })
+    clocks-pass (clocksIn (q .result .table)) (recordsOf (q .result .table)) (table-passes _ (now (m .before .before .before .before .before .args .recording)) (q .result) (q .ensures) (m .enum-told .given .1) .records) .0
 
-returns-3 : tie.Need-returns-3
-returns-3 c =
+judge-body-requires : tie.Need-judge-body-requires
+judge-body-requires c κs =
     let h = c .before .before .before in
     let m = h .before .before .before in
     let q = m .before .before .read-table in
-    c .judge-body .ensures ∙ rw (h .before .start-words .ensures) (sym (header-read _ _ (q .result) (q .ensures) (m .enum-told .given .1) (h .read-header .result) (h .read-header .ensures .0) (c .before .enum-told2 .given .1)))
+    let p = table-passes _ (now (m .before .before .before .before .before .args .recording)) (q .result) (q .ensures) (m .enum-told .given .1) in
+    (header-within _ _ (q .result) (q .ensures) (m .enum-told .given .1) (h .read-header .result) (h .read-header .ensures .0) (c .before .enum-told2 .given .1), h .read-header .ensures .1, record { room = p .constraints; fit = rw (c .clocks-in .ensures) (p .records); inside = rw (h .before .start-words .ensures) (p .words) })
+
+returns-3 : tie.Need-returns-3
+returns-3 c =
+    let h = c .before .before .before .before in
+    let m = h .before .before .before in
+    let q = m .before .before .read-table in
+    c .judge-body .ensures ∙ rw (c .before .clocks-in .ensures, h .before .start-words .ensures) (sym (header-read _ _ (q .result) (q .ensures) (m .enum-told .given .1) (h .read-header .result) (h .read-header .ensures .0) (c .before .before .enum-told2 .given .1)))
 
 pub run-spec : {M : Type 1} → statement M
 run-spec =
@@ -55,5 +64,6 @@ run-spec =
     (λ c κs. search needs)
     returns-2
     (λ c. search needs)
+    clocks-in-requires
     judge-body-requires
     returns-3)
