@@ -34,10 +34,9 @@ fn clocks_in(table: Table) -> Clocks
     requires { ⌜ clocksIn table .count ≤ 32 ⌝ }
     ensures { λ r. ⌜ r ≡ clocksIn table ⌝ }
 {
-    let count = table.names.count as u8;
     Clocks {
-        named: count,
-        count,
+        named: table.names.count as u8,
+        count: (table.names.count + table.implicit) as u8,
     }
 }
 
