@@ -36,11 +36,11 @@ module _ (s : Survey) (n : ℕ) (b a : Configuration) where
     refused-60 p e = rw (p59, e)
 
     module _ (p60 : outAt (s .out) n (b .words) ≡ Nowhere) where
-      pub refused-61 : (p : Place) → beyondClocks (s .clocks) (s .ticks) ≡ At p → concluded s n b a ≡ stepTold (refused TickSet p b)
+      pub refused-61 : (p : Place) → beyondClocks (s .clocks) (s .given) ≡ At p → concluded s n b a ≡ stepTold (refused TickSet p b)
       unfolding concluded
       refused-61 p e = rw (p59, p60, e)
 
-      module _ (p61 : beyondClocks (s .clocks) (s .ticks) ≡ Nowhere) where
+      module _ (p61 : beyondClocks (s .clocks) (s .given) ≡ Nowhere) where
         pub violated : (p : Place) → placed (s .failing) Nowhere ≡ At p → concluded s n b a ≡ stepTold (record { answer = Violated p; configuration = b })
         unfolding concluded
         violated p e = rw (p59, p60, p61, e)

@@ -21,6 +21,7 @@ use Rattle.constraint.specs.declared.Broken.the-variants.{Nowhere, At}
 use Rattle.constraint.specs.declared.Clocks.{Clocks}
 use Rattle.constraint.specs.declared.Constraint.{Constraint}
 use Rattle.constraint.specs.declared.Word.{Word}
+use Rattle.constraint.proofs.Booleans.{and-l}
 use Rattle.constraint.proofs.Demand3.{nowhere}
 use Rattle.constraint.proofs.Words.{only-zero}
 use Rattle.constraint.proofs.TickSets.{bits-zero}
@@ -93,7 +94,7 @@ module _ (ws vs : List Word) (h : length ws ≡ 64) (k : length vs ≡ 64) where
     answer-59 = rw (clocks-kept (take 64 rs) 0 (beginsSame clocks)) (go (countsFit clocks) refl)
       where
         go : (x : Bool) → countsFit clocks ≡ x → cond x (placed (to .unfit) (cond (ltb 64 (length rs)) (at 65) Nowhere)) (at 0) ≡ cond x (firstUnfit clocks none 1 rs) (at 0)
-        go true e = unfit-found (take 64 rs) 0 (beginsSame clocks) (leb-true (clocks .count) 32 e) (omega (arith, length-take 64 rs)) _ ∙ rw bits-zero (sym (unfit-is clocks rs))
+        go true e = unfit-found (take 64 rs) 0 (beginsSame clocks) (leb-true (clocks .count) 32 (and-l _ _ e)) (omega (arith, length-take 64 rs)) _ ∙ rw bits-zero (sym (unfit-is clocks rs))
         go false e = refl
 
     module _ (p : brokenRecord clocks rs ≡ Nowhere) where

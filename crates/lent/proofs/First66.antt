@@ -14,7 +14,7 @@ use Rattle.limit.specs.declared.Place.{Place}
 use Rattle.constraint.specs.Lists.{at, recordFits, firstUnfit, countsFit, brokenRecord, brokenWord}
 use Rattle.constraint.specs.Meaning.{definedOf}
 use Rattle.constraint.specs.SamePlace.{samePlaceOf, refuseAt, same, different, sameWords}
-use Rattle.constraint.specs.Ticks.{Ticks, none, addingAll, bits}
+use Rattle.constraint.specs.Ticks.{Ticks, none, addingAll}
 use Rattle.constraint.specs.declared.Broken.{Broken}
 use Rattle.constraint.specs.declared.Broken.the-variants.{Nowhere, At}
 use Rattle.constraint.specs.declared.Clocks.{Clocks}
@@ -23,7 +23,7 @@ use Rattle.constraint.specs.declared.Constraint.{Constraint}
 use Rattle.constraint.specs.declared.Word.{Word}
 use Rattle.constraint.proofs.Booleans.{and-l}
 use Rattle.constraint.proofs.Demand3.{nowhere, clocks-pass, place-passes}
-use Rattle.judging.specs.Single.{stepOf, refusesAt, beyondClocks, judgedTold}
+use Rattle.judging.specs.Single.{stepOf, refusesAt, beyondClocks, allTicks, judgedTold}
 use Rattle.judging.specs.Step.{judged}
 
 first-unfit-take : (clocks : Clocks) (earlier : Ticks) (i k : ℕ) (rs : List Constraint) → i ≤ 65 → 65 < i + k → firstUnfit clocks earlier i (take k rs) ≡ firstUnfit clocks earlier i rs
@@ -65,7 +65,7 @@ module _ {T : Type 0} (clocks : Clocks) (asked : List Constraint → Broken → 
 pub step-first-66 : (clocks : Clocks) (rs : List Constraint) (c : Configuration) (f : ℕ) → stepOf clocks (take 66 rs) c f ≡ stepOf clocks rs c f
 unfolding stepOf
 step-first-66 clocks rs c f =
-    asked-take clocks (λ qs b. refusesAt Records b c (refusesAt ConfigurationWord (brokenWord qs (c .words)) c (refusesAt TickSet (beyondClocks clocks f) c (judgedTold (judged (bits f) qs c))))) (λ p qs us. refl) rs
+    asked-take clocks (λ qs b. refusesAt Records b c (refusesAt ConfigurationWord (brokenWord qs (c .words)) c (refusesAt TickSet (beyondClocks clocks f) c (judgedTold (judged (allTicks clocks qs (c .words) f) qs c))))) (λ p qs us. refl) rs
 
 pub place-first-66 : (clocks : Clocks) (rs : List Constraint) (ws vs : List Word) → samePlaceOf clocks (take 66 rs) ws vs ≡ samePlaceOf clocks rs ws vs
 place-first-66 clocks rs ws vs =

@@ -109,4 +109,4 @@ module _ (c : Configuration) (vs : List Val) (is : Is C.the-row c vs) where
 
 -- the word that a survey holds
 pub known-word : (s : Survey) (vs : List Val) → Is S.the-row s vs → Is D.the-row (s .word) (cellVals (s .word))
-known-word s vs is = let a = LL.owed S.the-type S′.the-laws s vs is .1 .1 .1 .1 .1 .1 .1 .0 in subst (Is D.the-row (s .word)) (D′.lowers .val-is (s .word) _ a) a
+known-word s vs is = let a = LL.owed S.the-type S′.the-laws s vs is .1 .1 .1 .1 .1 .1 .1 .1 .0 in subst (Is D.the-row (s .word)) (D′.lowers .val-is (s .word) _ a) a

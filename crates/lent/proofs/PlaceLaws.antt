@@ -105,17 +105,17 @@ module _ (ws : List Word) (i : ℕ) where
 
 -- ---- the tick set
 
--- shifted by the clock count, nothing is left of it, or something is
-pub ticks-below : (clocks : Clocks) (f : ℕ) → f / 2 ^ clocks .count ≡ 0 → Nowhere ≡ beyondClocks clocks f
-ticks-below clocks f e = rw (lt-ltb f (2 ^ clocks .count) (omega (arith, rw e at (div-add-mod' f (2 ^ clocks .count)), mod-lt f (pow-pos (clocks .count)))))
+-- shifted by the named count, nothing is left of it, or something is
+pub ticks-below : (clocks : Clocks) (f : ℕ) → f / 2 ^ clocks .named ≡ 0 → Nowhere ≡ beyondClocks clocks f
+ticks-below clocks f e = rw (lt-ltb f (2 ^ clocks .named) (omega (arith, rw e at (div-add-mod' f (2 ^ clocks .named)), mod-lt f (pow-pos (clocks .named)))))
 
-pub ticks-beyond : (clocks : Clocks) (f : ℕ) → (f / 2 ^ clocks .count ≡ 0 → ⊥) → at 0 ≡ beyondClocks clocks f
-ticks-beyond clocks f n = go (ltb f (2 ^ clocks .count)) refl
+pub ticks-beyond : (clocks : Clocks) (f : ℕ) → (f / 2 ^ clocks .named ≡ 0 → ⊥) → at 0 ≡ beyondClocks clocks f
+ticks-beyond clocks f n = go (ltb f (2 ^ clocks .named)) refl
   where
-    go : (x : Bool) → ltb f (2 ^ clocks .count) ≡ x → at 0 ≡ cond x Nowhere (at 0)
+    go : (x : Bool) → ltb f (2 ^ clocks .named) ≡ x → at 0 ≡ cond x Nowhere (at 0)
     go true e = absurd (n (div-eq-of-lt (ltb-true _ _ e)))
     go false e = refl
 
 -- 32 bits are below 2 ^ 32
-pub ticks-room : (clocks : Clocks) (f : ℕ) → f < 2 ^ 32 → 32 ≤ clocks .count → Nowhere ≡ beyondClocks clocks f
-ticks-room clocks f h k = rw (lt-ltb f (2 ^ clocks .count) (lt-of-lt-of-le h (pow-mono k)))
+pub ticks-room : (clocks : Clocks) (f : ℕ) → f < 2 ^ 32 → 32 ≤ clocks .named → Nowhere ≡ beyondClocks clocks f
+ticks-room clocks f h k = rw (lt-ltb f (2 ^ clocks .named) (lt-of-lt-of-le h (pow-mono k)))

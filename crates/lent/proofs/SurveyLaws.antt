@@ -1,8 +1,9 @@
 -- The step's walk over the records comes to the definition: whatever is known of the records seen, the walk adds what the definition says of those
--- to come, whose words are not moved yet. Assumes nothing.
+-- to come, whose words are not moved yet. A record sees in the ticks so far what it sees in all of them, since 59 lets it use only named clocks and
+-- those defined above it. Assumes nothing.
 use mathlib.Core.Path.{_≡_, refl, sym, ap, _∙_}
 use mathlib.Core.Bool.{Bool, true, false, cond}
-use mathlib.Core.List.{List, [], _∷_, _++_}
+use mathlib.Core.List.{List, [], _∷_, _++_, map}
 use Prim.Native.Nat.{ℕ, suc, _+_, _<_, _≤_}
 use native.Mathlib.Numerals.{add-one}
 use native.Mathlib.Omega.{arith}
@@ -12,26 +13,30 @@ use lib.ListN.{length, take, drop, length-set, length-take, take-append-drop}
 use lib.Seq.{drop-cons, drop-set-lt, take-suc-set, take-all, append-snoc}
 use Rattle.limit.specs.declared.Limit.{Limit}
 use Rattle.limit.specs.declared.Limit.the-variants.{Records, ConfigurationWord, TickSet}
+use Rattle.constraint.specs.Implicit.{completed}
 use Rattle.constraint.specs.Lists.{at, countsFit, firstUnfit, brokenRecord, firstOut, brokenWord}
-use Rattle.constraint.specs.Look.{seen}
-use Rattle.constraint.specs.Meaning.{inRange, holds, nextWord}
+use Rattle.constraint.specs.Look.{seen, looked}
+use Rattle.constraint.specs.Meaning.{inRange, holds, nextWord, definedOf, clocksOf}
 use Rattle.constraint.specs.Million.{inMillion, firstPast}
 use Rattle.constraint.specs.SamePlace.{wordAt}
-use Rattle.constraint.specs.Ticks.{none, bits}
+use Rattle.constraint.specs.Ticks.{Ticks, none, addingAll, bits}
 use Rattle.constraint.specs.declared.Broken.{Broken}
 use Rattle.constraint.specs.declared.Broken.the-variants.{Nowhere, At}
 use Rattle.constraint.specs.declared.Clocks.{Clocks}
 use Rattle.constraint.specs.declared.Configuration.{Configuration}
 use Rattle.constraint.specs.declared.Constraint.{Constraint}
 use Rattle.constraint.specs.declared.Word.{Word}
-use Rattle.constraint.proofs.Demand3.{nowhere}
+use Rattle.constraint.proofs.Booleans.{and-l}
+use Rattle.constraint.proofs.Demand3.{nowhere, clocks-pass, later-pass}
+use Rattle.constraint.proofs.ImplicitLaws.{reached-same}
+use Rattle.constraint.proofs.Named.{holds-looks, next-looks}
 use Rattle.constraint.proofs.TickSets.{bits-zero}
 use Rattle.judging.specs.Code.{firstOf}
-use Rattle.judging.specs.Single.{StepTold, refusesAt, beyondClocks, judgedTold, stepOf}
+use Rattle.judging.specs.Single.{StepTold, refusesAt, beyondClocks, allTicks, judgedTold, stepOf}
 use Rattle.judging.specs.Step.{firstFailing, moved, handedBack, judged}
 use Rattle.judging.specs.declared.Outcome.the-variants.{Held, Failed, PastMillion}
 use Rattle.lent.specs.Places.{placed, unfitAt, outAt}
-use Rattle.lent.specs.Survey.{inside, held, stayed, after, begins, visited, Walked, turned, surveyed, judgedAt, concluded}
+use Rattle.lent.specs.Survey.{inside, held, stayed, after, begins, ticksHere, visited, Walked, turned, surveyed, judgedAt, concluded}
 use Rattle.lent.specs.declared.Survey.{Survey}
 use Rattle.lent.proofs.PlaceLaws.{lowest-placed, unfit-on, unfit-is, few-pass}
 
@@ -46,9 +51,9 @@ clocks-kept : (rs : List Constraint) (i : ℕ) (k : Walked) → surveyed i k rs 
 unfolding visited
 clocks-kept = kept (λ s. s .clocks) (λ s i r w. refl)
 
-ticks-kept : (rs : List Constraint) (i : ℕ) (k : Walked) → surveyed i k rs .known .ticks ≡ k .known .ticks
+given-kept : (rs : List Constraint) (i : ℕ) (k : Walked) → surveyed i k rs .known .given ≡ k .known .given
 unfolding visited
-ticks-kept = kept (λ s. s .ticks) (λ s i r w. refl)
+given-kept = kept (λ s. s .given) (λ s i r w. refl)
 
 -- ---- what is told of a record whose word is in range or not
 
@@ -107,67 +112,100 @@ out-found : (rs : List Constraint) (i n : ℕ) (k : Walked) → Room k i rs → 
 unfolding surveyed visited
 out-found [] i n k h e = let p : n ≡ i = omega arith in rw (p, add-one i)
 out-found (r ∷ rs) i n k h e =
-    let f = bits (k .known .ticks) in
     let w = wordAt (k .words) i in
+    let f = bits (ticksHere (k .known) r w) in
     ap (λ (ws : List Word). placed (surveyed (suc i) (turned i k r) rs .known .out) (firstOut (n + 1) [] ws)) (sym (words-stay k i r rs h n (omega (arith, e))))
     ∙ out-found rs (suc i) n (turned i k r) (room-next k i r rs h) (omega (arith, e))
     ∙ rw (words-stay k i r rs h (suc i) (omega arith), word-here k i r rs h, inside-is (inRange r w) (holds r w f) (inMillion r (nextWord r w f)) (nextWord r w f)) (lowest-placed (k .known .out) (inRange r w) i _ (here k i r rs h))
 
--- ---- judging, where every word is in range, those beyond the records, too
+-- ---- judging
 
-abbrev Fine : Walked → ℕ → List Constraint → Type 0
-Fine k i rs = firstOut (suc i) rs (drop i (k .words)) ≡ Nowhere
+-- the ticks that the walk comes to with the records to come
+abbrev whole : Walked → ℕ → List Constraint → Ticks
+whole k i rs = bits (completed (k .known .clocks .named) rs (drop i (k .words)) (k .known .ticks))
 
-module _ (k : Walked) (i : ℕ) (r : Constraint) (rs : List Constraint) (h : Room k i (r ∷ rs)) (e : Fine k i (r ∷ rs)) where
-  word-fine : (inRange r (wordAt (k .words) i) ≡ true) × (firstOut (suc (suc i)) rs (drop (suc i) (k .words)) ≡ Nowhere)
-  word-fine = nowhere _ _ (suc i) (rw (word-here k i r rs h) at e)
+-- 59 lets the records to come pass, behind records that define some clocks; every word is in range, those beyond the records, too; and the walk
+-- comes to the ticks G
+record Judging (G : Ticks) (k : Walked) (i : ℕ) (rs : List Constraint) : Type 0 where
+  there : Room k i rs
+  few : k .known .clocks .count ≤ 32
+  earlier : Ticks
+  pass : firstUnfit (k .known .clocks) earlier (suc i) rs ≡ Nowhere
+  fine : firstOut (suc i) rs (drop i (k .words)) ≡ Nowhere
+  ticks : G ≡ whole k i rs
 
-  rest-fine : Fine (turned i k r) (suc i) rs
-  rest-fine = rw (words-stay k i r rs h (suc i) (omega arith)) (word-fine .1)
+module _ (G : Ticks) (k : Walked) (i : ℕ) (r : Constraint) (rs : List Constraint) (h : Judging G k i (r ∷ rs)) where
+  abbrev w : Word
+  w = wordAt (k .words) i
 
-failing-found : (rs : List Constraint) (i : ℕ) (k : Walked) → Room k i rs → Fine k i rs
-    → placed (surveyed i k rs .known .failing) Nowhere ≡ placed (k .known .failing) (firstFailing (bits (k .known .ticks)) (suc i) rs (drop i (k .words)))
+  abbrev next : Word
+  next = nextWord r w G
+
+  abbrev here-is : drop i (k .words) ≡ w ∷ drop (suc i) (k .words)
+  here-is = word-here k i r rs (h .there)
+
+  abbrev stay : drop (suc i) (turned i k r .words) ≡ drop (suc i) (k .words)
+  stay = words-stay k i r rs (h .there) (suc i) (omega arith)
+
+  word-fine : (inRange r w ≡ true) × (firstOut (suc (suc i)) rs (drop (suc i) (k .words)) ≡ Nowhere)
+  word-fine = nowhere _ _ (suc i) (rw here-is at (h .fine))
+
+  judging-next : Judging G (turned i k r) (suc i) rs
+  unfolding visited
+  judging-next = record {
+    there = room-next k i r rs (h .there);
+    few = h .few;
+    earlier = addingAll (definedOf r) (h .earlier);
+    pass = later-pass (k .known .clocks) (h .earlier) (suc i) r rs (h .pass);
+    fine = rw stay (word-fine .1);
+    ticks = h .ticks ∙ rw (stay, here-is);
+  }
+
+  -- the record sees the same in the ticks so far as in all of them
+  sees : map (bits (ticksHere (k .known) r w)) (clocksOf r) ≡ map G (clocksOf r)
+  sees = rw (h .ticks, here-is) (reached-same (k .known .clocks) (h .few) r rs w (drop (suc i) (k .words)) (h .earlier) (suc i) (k .known .ticks) (h .pass))
+
+  looked-is : looked r w (bits (ticksHere (k .known) r w)) ≡ seen true (holds r w G) (inMillion r next) next
+  looked-is = rw (word-fine .0, holds-looks r w _ _ sees, next-looks r w _ _ sees)
+
+failing-found : (G : Ticks) (rs : List Constraint) (i : ℕ) (k : Walked) → Judging G k i rs
+    → placed (surveyed i k rs .known .failing) Nowhere ≡ placed (k .known .failing) (firstFailing G (suc i) rs (drop i (k .words)))
 unfolding surveyed visited
-failing-found [] i k h e = refl
-failing-found (r ∷ rs) i k h e =
-    let f = bits (k .known .ticks) in
+failing-found G [] i k h = refl
+failing-found G (r ∷ rs) i k h =
     let w = wordAt (k .words) i in
-    failing-found rs (suc i) (turned i k r) (room-next k i r rs h) (rest-fine k i r rs h e)
-    ∙ rw (words-stay k i r rs h (suc i) (omega arith), word-here k i r rs h, word-fine k i r rs h e .0, held-is (holds r w f) (inMillion r (nextWord r w f)) (nextWord r w f)) (lowest-placed (k .known .failing) (holds r w f) i _ (here k i r rs h))
+    failing-found G rs (suc i) (turned i k r) (judging-next G k i r rs h)
+    ∙ rw (stay G k i r rs h, here-is G k i r rs h, looked-is G k i r rs h, held-is (holds r w G) (inMillion r (nextWord r w G)) (nextWord r w G)) (lowest-placed (k .known .failing) (holds r w G) i _ (here k i r rs (h .there)))
 
 -- where every record held, too
-abbrev Held-all : Walked → ℕ → List Constraint → Type 0
-Held-all k i rs = firstFailing (bits (k .known .ticks)) (suc i) rs (drop i (k .words)) ≡ Nowhere
+abbrev Held-all : Ticks → Walked → ℕ → List Constraint → Type 0
+Held-all G k i rs = firstFailing G (suc i) rs (drop i (k .words)) ≡ Nowhere
 
-module _ (k : Walked) (i : ℕ) (r : Constraint) (rs : List Constraint) (h : Room k i (r ∷ rs)) (g : Held-all k i (r ∷ rs)) where
-  record-held : (holds r (wordAt (k .words) i) (bits (k .known .ticks)) ≡ true) × (firstFailing (bits (k .known .ticks)) (suc (suc i)) rs (drop (suc i) (k .words)) ≡ Nowhere)
-  record-held = nowhere _ _ (suc i) (rw (word-here k i r rs h) at g)
+module _ (G : Ticks) (k : Walked) (i : ℕ) (r : Constraint) (rs : List Constraint) (h : Judging G k i (r ∷ rs)) (g : Held-all G k i (r ∷ rs)) where
+  record-held : (holds r (wordAt (k .words) i) G ≡ true) × (firstFailing G (suc (suc i)) rs (drop (suc i) (k .words)) ≡ Nowhere)
+  record-held = nowhere _ _ (suc i) (rw (here-is G k i r rs h) at g)
 
-  rest-held : Held-all (turned i k r) (suc i) rs
-  unfolding visited
-  rest-held = rw (words-stay k i r rs h (suc i) (omega arith)) (record-held .1)
+  rest-held : Held-all G (turned i k r) (suc i) rs
+  rest-held = rw (stay G k i r rs h) (record-held .1)
 
-past-found : (rs : List Constraint) (i : ℕ) (k : Walked) → Room k i rs → Fine k i rs → Held-all k i rs
-    → placed (surveyed i k rs .known .past) Nowhere ≡ placed (k .known .past) (firstPast (suc i) rs (moved (bits (k .known .ticks)) rs (drop i (k .words))))
+past-found : (G : Ticks) (rs : List Constraint) (i : ℕ) (k : Walked) → Judging G k i rs → Held-all G k i rs
+    → placed (surveyed i k rs .known .past) Nowhere ≡ placed (k .known .past) (firstPast (suc i) rs (moved G rs (drop i (k .words))))
 unfolding surveyed visited
-past-found [] i k h e g = refl
-past-found (r ∷ rs) i k h e g =
-    let f = bits (k .known .ticks) in
-    let w = wordAt (k .words) i in
-    past-found rs (suc i) (turned i k r) (room-next k i r rs h) (rest-fine k i r rs h e) (rest-held k i r rs h g)
-    ∙ rw (words-stay k i r rs h (suc i) (omega arith), word-here k i r rs h, word-fine k i r rs h e .0, record-held k i r rs h g .0, stayed-is (inMillion r (nextWord r w f)) (nextWord r w f))
-    (lowest-placed (k .known .past) (inMillion r (nextWord r w f)) i _ (here k i r rs h))
+past-found G [] i k h g = refl
+past-found G (r ∷ rs) i k h g =
+    let v = nextWord r (wordAt (k .words) i) G in
+    past-found G rs (suc i) (turned i k r) (judging-next G k i r rs h) (rest-held G k i r rs h g)
+    ∙ rw (stay G k i r rs h, here-is G k i r rs h, looked-is G k i r rs h, record-held G k i r rs h g .0, stayed-is (inMillion r v) v) (lowest-placed (k .known .past) (inMillion r v) i _ (here k i r rs (h .there)))
 
-after-found : (rs : List Constraint) (i : ℕ) (k : Walked) → Room k i rs → Fine k i rs → Held-all k i rs → surveyed i k rs .words ≡ take i (k .words) ++ moved (bits (k .known .ticks)) rs (drop i (k .words))
+after-found : (G : Ticks) (rs : List Constraint) (i : ℕ) (k : Walked) → Judging G k i rs → Held-all G k i rs → surveyed i k rs .words ≡ take i (k .words) ++ moved G rs (drop i (k .words))
 unfolding surveyed visited
-after-found [] i k h e g = sym (take-append-drop i (k .words))
-after-found (r ∷ rs) i k h e g =
-    let f = bits (k .known .ticks) in
+after-found G [] i k h g = sym (take-append-drop i (k .words))
+after-found G (r ∷ rs) i k h g =
     let w = wordAt (k .words) i in
-    let l : i < length (k .words) = omega (arith, h .room, h .words) in
-    after-found rs (suc i) (turned i k r) (room-next k i r rs h) (rest-fine k i r rs h e) (rest-held k i r rs h g)
-    ∙ rw (words-stay k i r rs h (suc i) (omega arith), word-here k i r rs h, word-fine k i r rs h e .0, record-held k i r rs h g .0, after-is (inMillion r (nextWord r w f)) (nextWord r w f) w, take-suc-set (k .words) i (nextWord r w f) l)
-    (append-snoc (take i (k .words)) (nextWord r w f) _)
+    let v = nextWord r w G in
+    let l : i < length (k .words) = omega (arith, h .there .room, h .there .words) in
+    after-found G rs (suc i) (turned i k r) (judging-next G k i r rs h) (rest-held G k i r rs h g)
+    ∙ rw (stay G k i r rs h, here-is G k i r rs h, looked-is G k i r rs h, record-held G k i r rs h g .0, after-is (inMillion r v) v w, take-suc-set (k .words) i v l) (append-snoc (take i (k .words)) v _)
 
 -- ---- the answer
 
@@ -187,7 +225,7 @@ module _ (clocks : Clocks) (rs : List Constraint) (c : Configuration) (f : ℕ) 
   answer-59 = rw (clocks-kept (take 64 rs) 0 from) (go (countsFit clocks) refl)
     where
       go : (x : Bool) → countsFit clocks ≡ x → cond x (placed (to .known .unfit) (cond (ltb 64 (length rs)) (at 65) Nowhere)) (at 0) ≡ cond x (firstUnfit clocks none 1 rs) (at 0)
-      go true e = unfit-found (take 64 rs) 0 from (leb-true (clocks .count) 32 e) (omega (arith, length-take 64 rs)) _ ∙ rw bits-zero (sym (unfit-is clocks rs))
+      go true e = unfit-found (take 64 rs) 0 from (leb-true (clocks .count) 32 (and-l _ _ e)) (omega (arith, length-take 64 rs)) _ ∙ rw bits-zero (sym (unfit-is clocks rs))
       go false e = refl
 
   module _ (p : brokenRecord clocks rs ≡ Nowhere) where
@@ -201,19 +239,25 @@ module _ (clocks : Clocks) (rs : List Constraint) (c : Configuration) (f : ℕ) 
     answer-60 : outAt (to .known .out) (length rs) (c .words) ≡ brokenWord rs (c .words)
     answer-60 = rw all-seen (out-found rs 0 (length rs) from room (omega arith))
 
-    answer-judged : brokenWord rs (c .words) ≡ Nowhere → judgedAt (to .known) c (record { words = to .words }) ≡ judged (bits f) rs c
+    answer-judged : brokenWord rs (c .words) ≡ Nowhere → judgedAt (to .known) c (record { words = to .words }) ≡ judged (allTicks clocks rs (c .words) f) rs c
     unfolding judged
-    answer-judged q = rw all-seen (go (firstFailing (bits f) 1 rs (c .words)) refl)
+    answer-judged q = rw all-seen (go (firstFailing G 1 rs (c .words)) refl)
       where
-        go : (b : Broken) → firstFailing (bits f) 1 rs (c .words) ≡ b → judgedAt (surveyed 0 from rs .known) c (record { words = surveyed 0 from rs .words })
-            ≡ handedBack Failed b c (handedBack PastMillion (firstPast 1 rs (moved (bits f) rs (c .words))) c (record { outcome = Held; configuration = record { words = moved (bits f) rs (c .words) } }))
-        go (At x) e = rw (failing-found rs 0 from room q, e)
-        go Nowhere e = rw (failing-found rs 0 from room q, e, past-found rs 0 from room q e, after-found rs 0 from room q e)
+        G : Ticks
+        G = allTicks clocks rs (c .words) f
+
+        start : Judging G from 0 rs
+        start = record { there = room; few = clocks-pass clocks rs p .0; earlier = none; pass = clocks-pass clocks rs p .1; fine = q; ticks = refl }
+
+        go : (b : Broken) → firstFailing G 1 rs (c .words) ≡ b → judgedAt (surveyed 0 from rs .known) c (record { words = surveyed 0 from rs .words })
+            ≡ handedBack Failed b c (handedBack PastMillion (firstPast 1 rs (moved G rs (c .words))) c (record { outcome = Held; configuration = record { words = moved G rs (c .words) } }))
+        go (At x) e = rw (failing-found G rs 0 from start, e)
+        go Nowhere e = rw (failing-found G rs 0 from start, e, past-found G rs 0 from start e, after-found G rs 0 from start e)
 
   pub survey-steps : concluded (to .known) (length rs) c (record { words = to .words }) ≡ stepOf clocks rs c f
   unfolding concluded stepOf
   survey-steps =
-      let p61 : beyondClocks (to .known .clocks) (to .known .ticks) ≡ beyondClocks clocks f = rw (clocks-kept (take 64 rs) 0 from, ticks-kept (take 64 rs) 0 from) in
+      let p61 : beyondClocks (to .known .clocks) (to .known .given) ≡ beyondClocks clocks f = rw (clocks-kept (take 64 rs) 0 from, given-kept (take 64 rs) 0 from) in
       refuses Records c answer-59 (λ p.
       refuses ConfigurationWord c (answer-60 p) (λ q.
       refuses TickSet c p61 (λ _.

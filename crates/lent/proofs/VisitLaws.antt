@@ -2,22 +2,26 @@
 use mathlib.Core.Path.{_≡_, refl, _∙_}
 use mathlib.Core.Bool.{Bool, true, _&&_, and-eq-true-iff}
 use mathlib.Core.List.{[], _∷_}
-use Prim.Native.Nat.{ℕ}
+use Prim.Native.Nat.{ℕ, _<_}
+use borrow.Author.Tests.{lt-ltb}
 use denote.Enum.Declared.{tagOf}
 use types.Run.{OneOf, miss}
+use Rattle.constraint.specs.Implicit.{implied}
 use Rattle.constraint.specs.Look.{looked, fitted}
 use Rattle.constraint.specs.Meaning.{inRange}
 use Rattle.constraint.specs.SamePlace.{sameWord}
 use Rattle.constraint.specs.Ticks.{bits}
 use Rattle.constraint.specs.declared.Constraint.{Constraint}
 use Rattle.constraint.specs.declared.Fitted.{Fitted}
+use Rattle.constraint.specs.declared.Kind.{Kind}
+use Rattle.constraint.specs.declared.Kind.the-variants.{Empty, Relates, Defines}
 use Rattle.constraint.specs.declared.Seen.{Seen}
 use Rattle.constraint.specs.declared.Seen.the-variants.{Out, Fails, Leaves, Moves}
 use Rattle.constraint.specs.declared.Word.{Word}
 use Rattle.constraint.proofs.Seen as answer
 use Rattle.lent.specs.Compare.{compared}
 use Rattle.lent.specs.Places.{placeOf, lowest}
-use Rattle.lent.specs.Survey.{inside, held, stayed, added, visited}
+use Rattle.lent.specs.Survey.{inside, held, stayed, added, ticksHere, visited}
 use Rattle.lent.specs.declared.Comparison.{Comparison}
 use Rattle.lent.specs.declared.Survey.{Survey}
 
@@ -43,20 +47,26 @@ stayed-else (Moves v) h = refl
 
 -- ---- what a record adds
 
-module _ (s : Survey) (i : ℕ) (r : Constraint) (w : Word) {f : Fitted} {a : Seen} (e : f ≡ fitted (s .clocks) (s .earlier) r) (q : a ≡ looked r w (bits (s .ticks))) where
-  visit-adds : added s i f a w ≡ visited s i r w
-  unfolding visited
-  visit-adds = rw (e, q)
+-- the record of a named clock, and a relation whose unused number is that of one, makes no implicit clock tick
+pub implied-named : (n : ℕ) (k : Kind) (w : Word) (a b : Bool) (c : ℕ) → c < n → implied n k w a b c ≡ []
+implied-named n Empty w a b c l = refl
+implied-named n (Relates k) w a b c l = refl
+implied-named n (Defines k) w a b c l = rw (lt-ltb c n l)
 
-  pub visit-is : {x : Survey} → x ≡ added s i f a w → x ≡ visited s i r w
+module _ (s : Survey) (i : ℕ) (r : Constraint) (w : Word) {g : ℕ} {f : Fitted} {a : Seen} (t : g ≡ ticksHere s r w) (e : f ≡ fitted (s .clocks) (s .earlier) r) (q : a ≡ looked r w (bits g)) where
+  visit-adds : added s g i f a w ≡ visited s i r w
+  unfolding visited
+  visit-adds = rw (q, t, e)
+
+  pub visit-is : {x : Survey} → x ≡ added s g i f a w → x ≡ visited s i r w
   visit-is p = p ∙ visit-adds
 
   -- where nothing is amiss
   pub fine-adds : (x : Word) → f .fits ≡ true → a ≡ Moves x
-      → record { clocks = s .clocks; ticks = s .ticks; earlier = f .defined; unfit = s .unfit; out = s .out; failing = s .failing; past = s .past; word = x } ≡ visited s i r w
+      → record { clocks = s .clocks; given = s .given; ticks = g; earlier = f .defined; unfit = s .unfit; out = s .out; failing = s .failing; past = s .past; word = x } ≡ visited s i r w
   fine-adds x h p = same ∙ visit-adds
     where
-      same : record { clocks = s .clocks; ticks = s .ticks; earlier = f .defined; unfit = s .unfit; out = s .out; failing = s .failing; past = s .past; word = x } ≡ added s i f a w
+      same : record { clocks = s .clocks; given = s .given; ticks = g; earlier = f .defined; unfit = s .unfit; out = s .out; failing = s .failing; past = s .past; word = x } ≡ added s g i f a w
       same = rw (h, p)
 
 -- a comparison with other fields, but for the clock count

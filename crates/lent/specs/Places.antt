@@ -26,7 +26,7 @@ abbrev pub placed : ℕ → Broken → Broken
 placed zero b = b
 placed (suc k) b = at (suc k)
 
--- 59: a clock count over 32 has place 0; the first record that does not fit; over 64 records have place 65
+-- 59: a clock count over 32, and a named count above it, has place 0; the first record that does not fit; over 64 records have place 65
 abbrev pub unfitAt : Clocks → (unfit count : ℕ) → Broken
 unfitAt clocks unfit count = cond (countsFit clocks) (placed unfit (cond (ltb 64 count) (at 65) Nowhere)) (at 0)
 

@@ -1,5 +1,5 @@
 -- Where single steps begin: the start words of a list of records, where limit 59 lets it pass (document 01, "Table text", its third column, and
--- "Where each refusal is checked", 59). Assumes nothing.
+-- "Where each refusal is checked", 59; document 02, M-101). Assumes nothing.
 use mathlib.Core.Path.{_≡_, refl}
 use mathlib.Core.List.{List, _∷_}
 use Prim.Native.Nat.{ℕ, _<_, _^_}
@@ -9,6 +9,7 @@ use Rattle.limit.specs.Limit.{numberOf}
 use Rattle.limit.specs.declared.Check.{Check}
 use Rattle.limit.specs.declared.Check.the-variants.{Passed, Refused}
 use Rattle.limit.specs.declared.Limit.the-variants.{Records}
+use Rattle.constraint.specs.Implicit.{nestedClocks, nestedRecords}
 use Rattle.constraint.specs.Lists.{counting, brokenRecord, slots, startWords}
 use Rattle.constraint.specs.Meaning.{word}
 use Rattle.constraint.specs.declared.Broken.{Broken}
@@ -51,10 +52,10 @@ startAt (At p) rs = record { said = refused (numberOf Records) (p .0); configura
 unfoldable pub startOf : Clocks → List Constraint → StartTold
 startOf clocks rs = startAt (brokenRecord clocks rs) rs
 
--- ---- the claims: 59, 60 and 61 let a step of the clocks pass from the start words; and where a start is refused, so is every step
+-- ---- the claims: 59, 60 and 61 let a step of named clocks pass from the start words; and where a start is refused, so is every step
 
 pub record Starts (clocks : Clocks) (rs : List Constraint) : Type 0 where
-  pub passes : startOf clocks rs .said ≡ started → (f : ℕ) → f < 2 ^ clocks .count → Passes clocks rs (startOf clocks rs .configuration .words) f
+  pub passes : startOf clocks rs .said ≡ started → (f : ℕ) → f < 2 ^ clocks .named → Passes clocks rs (startOf clocks rs .configuration .words) f
   pub refuses : (n p : ℕ) → startOf clocks rs .said ≡ refused n p → (c : Configuration) (f : ℕ) → stepOf clocks rs c f .said ≡ single.refused n p
 
 abbrev pub EveryStart : Type 0
@@ -70,3 +71,9 @@ example-starts = refl
 two-clocks : startOf (counting 2) exampleRecords ≡ record { said = refused 59 2; configuration = record { words = replicate 64 (word (pos 0)) } }
 unfolding startOf
 two-clocks = refl
+
+-- ---- document 02's nested line: its start words are 0 1 0
+
+nested-starts : startOf nestedClocks nestedRecords ≡ record { said = started; configuration = record { words = word (pos 0) ∷ word (pos 1) ∷ replicate 62 (word (pos 0)) } }
+unfolding startOf
+nested-starts = refl

@@ -6,10 +6,11 @@ use Prim.Native.Nat.{ℕ, suc}
 use lib.IntN.{pos}
 use lib.ListN.{set}
 use Rattle.limit.specs.declared.Limit.the-variants.{Records, ConfigurationWord, TickSet}
+use Rattle.constraint.specs.Implicit.{impliedOf}
 use Rattle.constraint.specs.Look.{looked, fitted}
 use Rattle.constraint.specs.Meaning.{word}
 use Rattle.constraint.specs.SamePlace.{wordAt}
-use Rattle.constraint.specs.Ticks.{bits}
+use Rattle.constraint.specs.Ticks.{bits, withTicks}
 use Rattle.constraint.specs.declared.Broken.the-variants.{Nowhere}
 use Rattle.constraint.specs.declared.Clocks.{Clocks}
 use Rattle.constraint.specs.declared.Configuration.{Configuration}
@@ -27,7 +28,7 @@ use Rattle.lent.specs.declared.Survey.{Survey}
 
 -- before the first record
 abbrev pub begins : Clocks → (ticks : ℕ) → Survey
-begins clocks f = record { clocks = clocks; ticks = f; earlier = 0; unfit = 0; out = 0; failing = 0; past = 0; word = word (pos 0) }
+begins clocks f = record { clocks = clocks; given = f; ticks = f; earlier = 0; unfit = 0; out = 0; failing = 0; past = 0; word = word (pos 0) }
 
 -- ---- what a step comes to for a record: the word is in range; the record does not fail; the word does not leave its million; the word after it
 
@@ -55,22 +56,28 @@ after Fails w = w
 after (Leaves v) w = v
 after (Moves v) w = v
 
--- ---- what record i adds, by how it fits and what the step comes to for it and its word w
+-- ---- what record i adds, by the ticks f with its own, how it fits and what the step comes to for it and its word w
 
-abbrev pub added : Survey → (i : ℕ) → Fitted → Seen → (w : Word) → Survey
-added s i f a w = record {
+abbrev pub added : Survey → (f i : ℕ) → Fitted → Seen → (w : Word) → Survey
+added s f i p a w = record {
   clocks = s .clocks;
-  ticks = s .ticks;
-  earlier = f .defined;
-  unfit = lowest (s .unfit) (f .fits) (placeOf i);
+  given = s .given;
+  ticks = f;
+  earlier = p .defined;
+  unfit = lowest (s .unfit) (p .fits) (placeOf i);
   out = lowest (s .out) (inside a) (placeOf i);
   failing = lowest (s .failing) (held a) (placeOf i);
   past = lowest (s .past) (stayed a) (placeOf i);
   word = after a w;
 }
 
+-- the ticks at a record: those so far, with that of the implicit clock that it defines. A definition stands above its use, so they are all that
+-- the record asks
+abbrev pub ticksHere : Survey → Constraint → (w : Word) → ℕ
+ticksHere s r w = withTicks (s .ticks) (impliedOf (s .clocks .named) r w (bits (s .ticks)))
+
 unfoldable pub visited : Survey → (i : ℕ) → Constraint → (w : Word) → Survey
-visited s i r w = added s i (fitted (s .clocks) (s .earlier) r) (looked r w (bits (s .ticks))) w
+visited s i r w = added s (ticksHere s r w) i (fitted (s .clocks) (s .earlier) r) (looked r w (bits (ticksHere s r w))) w
 
 -- ---- record by record, with the words, of which each is moved as its record is visited
 
@@ -97,5 +104,5 @@ unfoldable pub concluded : Survey → (count : ℕ) → (before after : Configur
 concluded s n b a =
     refusesAt Records (unfitAt (s .clocks) (s .unfit) n) b
     (refusesAt ConfigurationWord (outAt (s .out) n (b .words)) b
-    (refusesAt TickSet (beyondClocks (s .clocks) (s .ticks)) b
+    (refusesAt TickSet (beyondClocks (s .clocks) (s .given)) b
     (judgedTold (judgedAt s b a))))

@@ -19,10 +19,12 @@ pub use walks::same_place_on;
 pub use walks::step;
 pub use walks::step_on;
 
-// What a step knows of the first records: the clocks that they define; the lowest place, from 1, of a record that does not fit, of a word out of
-// range, of a record that fails, and of a word that leaves its million, each 0 where there is none; and the last of their words after the step.
+// What a step knows of the first records: the tick set that it was given, and the same with the implicit clocks that tick by now; the clocks that
+// the records define; the lowest place, from 1, of a record that does not fit, of a word out of range, of a record that fails, and of a word that
+// leaves its million, each 0 where there is none; and the last of their words after the step.
 pub struct Survey {
     pub clocks: Clocks,
+    pub given: u32,
     pub ticks: u32,
     pub earlier: u32,
     pub unfit: usize,

@@ -33,7 +33,7 @@ pub fn lowest(known: usize, passes: bool, place: usize) -> usize
     known
 }
 
-// Limit 59: a clock count over 32, the first record that does not fit, over 64 records.
+// Limit 59: counts of clocks that do not fit, the first record that does not, over 64 records.
 pub fn unfit_at(clocks: Clocks, unfit: usize, count: usize) -> Broken
     ensures { λ r. ⌜ r ≡ p.unfitAt clocks unfit count ⌝ }
 {

@@ -26,6 +26,7 @@ pub fn begin(clocks: Clocks, ticks: u32) -> Survey
 {
     Survey {
         clocks,
+        given: ticks,
         ticks,
         earlier: 0,
         unfit: 0,
@@ -78,15 +79,16 @@ fn after(seen: Seen, w: Word) -> Word
     }
 }
 
-// What a record adds, by how it fits and what the step comes to for it.
-fn add(survey: Survey, i: usize, fitted: Fitted, seen: Seen, w: Word) -> Survey
-    ensures { λ r. ⌜ r ≡ s.added survey i fitted seen w ⌝ }
+// What a record adds, by the ticks with its own, how it fits and what the step comes to for it.
+fn add(survey: Survey, ticks: u32, i: usize, fitted: Fitted, seen: Seen, w: Word) -> Survey
+    ensures { λ r. ⌜ r ≡ s.added survey ticks i fitted seen w ⌝ }
 {
     let clocks = survey.clocks;
     let place = place_of(i);
     Survey {
         clocks,
-        ticks: survey.ticks,
+        given: survey.given,
+        ticks,
         earlier: fitted.defined,
         unfit: lowest(survey.unfit, fitted.fits, place),
         out: lowest(survey.out, inside(seen), place),
@@ -96,18 +98,24 @@ fn add(survey: Survey, i: usize, fitted: Fitted, seen: Seen, w: Word) -> Survey
     }
 }
 
-// What record i and its word add. Where nothing is amiss, that is the clocks that it defines, and its word.
+// What record i and its word add. A record that defines an implicit clock is looked at with that clock's tick. Where nothing is amiss, what it adds
+// is the ticks, the clocks that it defines, and its word.
 pub fn visit(survey: Survey, i: usize, constraint: Constraint, w: Word) -> Survey
     ensures { λ r. ⌜ r ≡ s.visited survey i constraint w ⌝ }
 {
     let clocks = survey.clocks;
     let fitted = constraint::fit(clocks, survey.earlier, constraint);
-    let seen = constraint::look(constraint, w, survey.ticks);
+    let mut ticks = survey.ticks;
+    if clocks.named <= constraint.defined {
+        ticks = constraint::with_implied(clocks.named, constraint, w, ticks);
+    }
+    let seen = constraint::look(constraint, w, ticks);
     if fitted.fits {
         if let Seen::Moves(word) = seen {
             return Survey {
                 clocks,
-                ticks: survey.ticks,
+                given: survey.given,
+                ticks,
                 earlier: fitted.defined,
                 unfit: survey.unfit,
                 out: survey.out,
@@ -117,16 +125,16 @@ pub fn visit(survey: Survey, i: usize, constraint: Constraint, w: Word) -> Surve
             };
         }
     }
-    add(survey, i, fitted, seen, w)
+    add(survey, ticks, i, fitted, seen, w)
 }
 
-// Limit 61: a bit at or above the clock count.
+// Limit 61: a bit at or above the named count.
 fn beyond_clocks(clocks: Clocks, ticks: u32) -> Broken
     ensures { λ r. ⌜ r ≡ beyondClocks clocks ticks ⌝ }
 {
-    let count = clocks.count;
-    if count < 32 {
-        if ticks >> count != 0 {
+    let named = clocks.named;
+    if named < 32 {
+        if ticks >> named != 0 {
             return Broken::At(Place(0));
         }
     }
@@ -159,7 +167,7 @@ pub fn conclude(
     if let Broken::At(place) = out_at(survey.out, count, before) {
         return refused(Limit::ConfigurationWord, place, before);
     }
-    if let Broken::At(place) = beyond_clocks(clocks, survey.ticks) {
+    if let Broken::At(place) = beyond_clocks(clocks, survey.given) {
         return refused(Limit::TickSet, place, before);
     }
     if survey.failing != 0 {

@@ -1,4 +1,4 @@
--- `beyond_clocks` meets its contract: below 32 the set is shifted by the clock count, and from there on there is room for every bit.
+-- `beyond_clocks` meets its contract: below 32 the set is shifted by the named count, and from there on there is room for every bit.
 -- Assumes nothing.
 use Rattle.lent.proofs.PlaceLaws.{ticks-below, ticks-beyond, ticks-room}
 use borrow.Author.Needs.{needs}

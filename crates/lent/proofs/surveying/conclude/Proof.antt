@@ -8,14 +8,14 @@ use Rattle.lent.proofs.PlaceLaws.{placed-known}
 use Rattle.lent.proofs.surveying.conclude.Statement.{statement}
 use Rattle.lent.proofs.surveying.conclude.Tie as tie
 
--- no record is unfit; no word is out of range; no bit is beyond the clock count; no record fails
+-- no record is unfit; no word is out of range; no bit is beyond the named count; no record fails
 p59 : (c : tie.After-enum-told) → let s = c .before .before .before .before .args in unfitAt (s .survey .clocks) (s .survey .unfit) (s .count) ≡ Nowhere
 p59 c = sym (c .before .before .unfit-at .ensures) ∙ c .enum-told .given .1
 
 p60 : (c : tie.After-enum-told2) → let s = c .before .before .before .before .before .before .before .args in outAt (s .survey .out) (s .count) (s .before .words) ≡ Nowhere
 p60 c = sym (c .before .before .out-at .ensures) ∙ c .enum-told2 .given .1
 
-p61 : (c : tie.After-enum-told3) → let s = c .before .before .before .before .before .before .before .before .before .before .args in beyondClocks (s .survey .clocks) (s .survey .ticks) ≡ Nowhere
+p61 : (c : tie.After-enum-told3) → let s = c .before .before .before .before .before .before .before .before .before .before .args in beyondClocks (s .survey .clocks) (s .survey .given) ≡ Nowhere
 p61 c = sym (c .before .before .beyond-clocks .ensures) ∙ c .enum-told3 .given .1
 
 returns : tie.Need-returns

@@ -284,7 +284,7 @@ module _ {M : Type 1} (𝓤 : URA M) (H : Heap 𝓤) (A : Atoms 𝓤) (W : Given
         assigns ! (addr ! (from ! (fld ! refl (stop !)))) (from ! (stop !)) (init ! 8 refl (tt, tt)) $
         assigns ! (bin ! (load ! (from ! (stop !)) (look ! 8 refl)) (load ! (from ! (stop !)) (look ! 28 refl)) tt) (from ! (stop !)) (init ! 6 refl (tt, tt)) $
         rewrite ! 6 (λ (p : ℕ). ‵ (fat fullShare tyPtr l₁₉ 0 (vptr l₆ p))) (sym (place-is wordSize 0 i)) refl $
-        assigns ! (of-opd ! (load ! (from ! (fld ! refl (stop !))) (look-in ! 34 (sub ! 7 refl (whole !))))) (from ! (hop ! (look ! 6 refl) (stop !)))
+        assigns ! (of-opd ! (load ! (from ! (fld ! refl (stop !))) (look-in ! 34 (sub ! 8 refl (whole !))))) (from ! (hop ! (look ! 6 refl) (stop !)))
         (store-in ! 32 (elem ! (cells ws) i (D′.lowered zero-word) (few h) (cells-64 (words-of t) _ (t .4)) (sub ! 0 refl (whole !))) (LL.lawful D.the-type D′.the-laws 𝓤 H A W .typed (r .word) _ (known-word r _ is) .0)) $
         rewrite ! 32 (λ (us : List Val). ‵ (fat fullShare C′.mir l₆ 0 (vstruct (vcons (arrayVal us) vnil)))) (cells-set ws i (r .word)) refl $
         assigns-last ! (bin ! (load ! (from ! (stop !)) (look ! 30 refl)) (lit ! tt) (record { fits = next-fits i n (below h) (room .0) })) (from ! (stop !)) (store ! 30 refl (tt, record { fits = next-fits i n (below h) (room .0) })) $
