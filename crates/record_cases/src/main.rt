@@ -1,4 +1,4 @@
-// Asks the calls on records what each line of `data/cases` asks, and prints the answers. What document 01 says of each stands in `stdout`.
+// Asks the calls on records what each line of `data/cases` asks, and prints the answers. What documents 01 and 02 say of each stands in `stdout`.
 mod ask;
 mod line;
 mod read;

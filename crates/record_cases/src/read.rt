@@ -162,11 +162,11 @@ pub fn count(line: &[u8]) -> usize {
     number(line, b"count", 1) as usize
 }
 
-// The clock count: 3 where the line does not say it.
+// The clock count, 3 where the line does not say it, and the named count, all of them where it does not say that.
 pub fn clocks(line: &[u8]) -> Clocks {
-    Clocks {
-        count: clock_of(number(line, b"clocks", 3)),
-    }
+    let count = clock_of(number(line, b"clocks", 3));
+    let named = clock_of(number(line, b"named", count as i64));
+    Clocks { named, count }
 }
 
 fn relation(n: usize) -> Relation {
