@@ -134,6 +134,10 @@ implicit-is n r m = go (r .kind) refl
 defined-below : (m : ℕ) (r : Constraint) (k : Definition) → wellFormed m r ≡ true → r .kind ≡ Defines k → r .defined < m
 defined-below m r k ok q = ltb-true (r .defined) m (and-l _ _ (and-l _ _ (and-l _ _ (rw q at ok))))
 
+-- a record that names no other than named clocks makes none tick
+pub implied-named : (n : ℕ) (r : Constraint) (w : Word) (F : Ticks) → wellFormed n r ≡ true → impliedOf n r w F ≡ []
+implied-named n r w F ok = by-implied n r w F (λ ks. ks ≡ []) refl (λ k q p. let c : n ≤ r .defined = ltb-false _ _ p in absurd (omega (arith, defined-below n r k ok q)))
+
 beq-same : (x : Bool) → Bool·beq x x ≡ true
 beq-same true = refl
 beq-same false = refl
@@ -296,8 +300,8 @@ module _ (clocks : Clocks) (rs : List Constraint) (ws : List Word) (f : ℕ) (e 
       go [] ws E i e = refl
       go (r ∷ rs) [] E i e = refl
       go (r ∷ rs) (w ∷ ws) E i e =
-          by-implied (clocks .named) r w (bits f) (λ ks. completed (clocks .named) rs ws (withTicks f ks) ≡ f) (go rs ws (addingAll (definedOf r) E) (suc i) (later-pass clocks E i r rs e))
-          (λ k q p. let c : clocks .named ≤ r .defined = ltb-false _ _ p in absurd (omega (arith, defined-below (clocks .count) r k (record-passes clocks E i r rs e) q)))
+          let ok : wellFormed (clocks .named) r ≡ true = rw all (record-passes clocks E i r rs e) in
+          ap (λ (ks : List ℕ). completed (clocks .named) rs ws (withTicks f ks)) (implied-named (clocks .named) r w (bits f) ok) ∙ go rs ws (addingAll (definedOf r) E) (suc i) (later-pass clocks E i r rs e)
 
 -- ---- of any list
 

@@ -1,21 +1,22 @@
 -- What an answer of `look` tells; which forms count in one way, told by the places of their variants; how a record fits, by its kind. Assumes
 -- nothing.
-use mathlib.Core.Path.{_≡_, refl, ap}
-use mathlib.Core.Bool.{Bool, true, false, not, _&&_, and-true, and-comm, or-false}
+use mathlib.Core.Path.{_≡_, refl, sym, ap, _∙_}
+use mathlib.Core.Bool.{Bool, true, false, not, _&&_, and-true, and-assoc, or-false}
 use mathlib.Core.List.{[], _∷_}
 use Prim.Native.Nat.{ℕ}
 use native.Mathlib.Omega.{arith}
 use denote.Enum.Declared.{tagOf}
 use types.Run.{OneOf, miss}
 use Rattle.constraint.specs.Lists.{allKnown}
-use Rattle.constraint.specs.Look.{seen, fitted}
-use Rattle.constraint.specs.Meaning.{relationCounter, definitionCounter, operands, clocksFit, parameterFits}
-use Rattle.constraint.specs.Ticks.{bits, withTick}
+use Rattle.constraint.specs.Look.{seen, fittedAmong, fitted}
+use Rattle.constraint.specs.Meaning.{relationCounter, definitionCounter, operands, clocksFit, parameterFits, wellFormed, definedOf, usedOf}
+use Rattle.constraint.specs.Ticks.{any, bits, withTick, withTicks}
 use Rattle.constraint.specs.declared.Clocks.{Clocks}
 use Rattle.constraint.specs.declared.Constraint.{Constraint}
 use Rattle.constraint.specs.declared.Counter.the-variants.{Fixed, Gap, Lead}
 use Rattle.constraint.specs.declared.Definition.{Definition}
 use Rattle.constraint.specs.declared.Definition.the-variants.{Union, Inter, Lub, Glb, Await, StrictlySampled, Sampled, Upto}
+use Rattle.constraint.specs.declared.Fitted.{Fitted}
 use Rattle.constraint.specs.declared.Kind.the-variants.{Relates, Defines}
 use Rattle.constraint.specs.declared.Relation.{Relation}
 use Rattle.constraint.specs.declared.Relation.the-variants.{Coincides, Excludes, SubClock, StrictlyPrecedes, Precedes}
@@ -84,23 +85,20 @@ fixed-definition Upto h = absurd (miss (0 ∷ 1 ∷ []) 7 tt h)
 
 -- ---- how a record fits
 
-last-two : (x y z : Bool) → ((x && y) && z) ≡ (x && (z && y))
-last-two true y z = and-comm y z
-last-two false y z = refl
-
-module _ (clocks : Clocks) (earlier : ℕ) (r : Constraint) where
-  pub fits-relation :
-      {k : Relation} {f u : Bool} → r .kind ≡ Relates k → f ≡ clocksFit (clocks .count) (r .first ∷ r .second ∷ []) → u ≡ allKnown (clocks .named) (bits earlier) (r .first ∷ r .second ∷ [])
-      → record { fits = f && u; defined = earlier } ≡ fitted clocks earlier r
-  fits-relation {k = k} e p q =
-      rw (e, p, q, relation-fits k (r .parameter), and-true (clocksFit (clocks .count) (r .first ∷ r .second ∷ [])))
+module _ (clocks earlier : ℕ) (r : Constraint) where
+  pub fits-relation : {k : Relation} {f : Bool} → r .kind ≡ Relates k → f ≡ clocksFit clocks (r .first ∷ r .second ∷ []) → record { fits = f; defined = earlier } ≡ fittedAmong clocks earlier r
+  fits-relation {k = k} e p =
+      let x = clocksFit clocks (r .first ∷ r .second ∷ []) in
+      rw (e, p, relation-fits k (r .parameter)) (ap (λ (y : Bool). record { fits = y; defined = earlier }) (sym (and-true (x && true) ∙ and-true x)))
 
   pub fits-definition :
       {k : Definition} {f t : Bool} {d : ℕ} → r .kind ≡ Defines k
-      → f ≡ ((clocksFit (clocks .count) (r .defined ∷ operands k (r .first) (r .second)) && parameterFits (definitionCounter k) (r .parameter)) && allKnown (clocks .named) (bits earlier) (operands k (r .first) (r .second)))
-      → t ≡ bits earlier (r .defined) → d ≡ withTick earlier (r .defined) → record { fits = f && not t; defined = d } ≡ fitted clocks earlier r
-  fits-definition {k = k} e p q o =
-      let same =
-      last-two (clocksFit (clocks .count) (r .defined ∷ operands k (r .first) (r .second)) && parameterFits (definitionCounter k) (r .parameter))
-      (allKnown (clocks .named) (bits earlier) (operands k (r .first) (r .second))) (not (bits earlier (r .defined))) in
-      rw (e, p, q, o, or-false) (ap (λ (x : Bool). record { fits = x; defined = withTick earlier (r .defined) }) same)
+      → f ≡ (clocksFit clocks (r .defined ∷ operands k (r .first) (r .second)) && parameterFits (definitionCounter k) (r .parameter)) → t ≡ bits earlier (r .defined) → d ≡ withTick earlier (r .defined)
+      → record { fits = f && not t; defined = d } ≡ fittedAmong clocks earlier r
+  fits-definition e p q o = rw (e, p, q, o, or-false)
+
+pub fits-both : (clocks : Clocks) (earlier : ℕ) (r : Constraint) {f : Fitted} {u : Bool} → f ≡ fittedAmong (clocks .count) earlier r → u ≡ allKnown (clocks .named) (bits earlier) (usedOf r)
+    → record { fits = f .fits && u; defined = f .defined } ≡ fitted clocks earlier r
+fits-both clocks earlier r p q =
+    let same = and-assoc (wellFormed (clocks .count) r) (not (any (bits earlier) (definedOf r))) (allKnown (clocks .named) (bits earlier) (usedOf r)) in
+    rw (p, q) (ap (λ (x : Bool). record { fits = x; defined = withTicks earlier (definedOf r) }) same)

@@ -43,7 +43,11 @@ pub record Narrow (s : Range) : Type 0 where
   pub low : mag (s .low) < 4294967296
   pub high : mag (s .high) < 4294967296
 
--- limit 59 of a record, but for the number of records; earlier has the clocks that those before it define
+-- limit 59 of a record among so many clocks, but for the number of records and for what it uses; earlier has the clocks that those before it define
+abbrev pub fittedAmong : (clocks earlier : ℕ) → Constraint → Fitted
+fittedAmong clocks earlier r = record { fits = wellFormed clocks r && not (any (bits earlier) (definedOf r)); defined = withTicks earlier (definedOf r) }
+
+-- the same, and that it uses only named clocks and those defined above it
 abbrev pub fitted : Clocks → (earlier : ℕ) → Constraint → Fitted
 fitted clocks earlier r =
     record {

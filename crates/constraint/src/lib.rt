@@ -15,6 +15,7 @@ pub use place::counts_fit;
 pub use place::defines_again;
 pub use place::empty;
 pub use place::fit;
+pub use place::fit_among;
 pub use place::same_word;
 pub use place::start_words;
 pub use place::with_defined;

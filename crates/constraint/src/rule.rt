@@ -1,6 +1,5 @@
 // What one constraint means: document 01, "Table text". Each function is equal to the definition of its name in specs/Meaning.
 use super::Change;
-use super::Clocks;
 use super::Constraint;
 use super::Counter;
 use super::Definition;
@@ -377,6 +376,16 @@ fn number_fits(n: Parameter) -> bool
     (1 <= n.0) & (n.0 <= 1000000)
 }
 
+// The clocks of a definition, c, which it defines, and its operands, and its number.
+pub fn definition_fits(k: Definition, clocks: u8, a: u8, b: u8, c: u8, n: Parameter) -> bool
+    ensures { λ r. ⌜ r ≡ (m.clocksFit clocks (c ∷ m.operands k a b) && m.parameterFits (m.definitionCounter k) n) ⌝ }
+{
+    match k {
+        Definition::Await => pair_fits(clocks, c, a) & number_fits(n),
+        _ => triple_fits(clocks, c, a, b),
+    }
+}
+
 // Whether a clock is a named one, or one of those that earlier records define.
 fn known(named: u8, earlier: u32, i: u8) -> bool
     ensures { λ r. ⌜ r ≡ (ltb i named || bits earlier i) ⌝ }
@@ -391,22 +400,12 @@ pub fn both_known(named: u8, earlier: u32, x: u8, y: u8) -> bool
     known(named, earlier, x) & known(named, earlier, y)
 }
 
-// The clocks of a definition, c, which it defines, and its operands, and its number; and that its operands are known.
-pub fn definition_fits(
-    k: Definition,
-    clocks: Clocks,
-    earlier: u32,
-    a: u8,
-    b: u8,
-    c: u8,
-    n: Parameter,
-) -> bool
-    ensures { λ r. ⌜ r ≡ ((m.clocksFit (clocks .count) (c ∷ m.operands k a b) && m.parameterFits (m.definitionCounter k) n) && allKnown (clocks .named) (bits earlier) (m.operands k a b)) ⌝ }
+// Whether the operands of a definition are.
+pub fn operands_known(k: Definition, named: u8, earlier: u32, a: u8, b: u8) -> bool
+    ensures { λ r. ⌜ r ≡ allKnown named (bits earlier) (m.operands k a b) ⌝ }
 {
     match k {
-        Definition::Await => {
-            pair_fits(clocks.count, c, a) & number_fits(n) & known(clocks.named, earlier, a)
-        }
-        _ => triple_fits(clocks.count, c, a, b) & both_known(clocks.named, earlier, a, b),
+        Definition::Await => known(named, earlier, a),
+        _ => both_known(named, earlier, a, b),
     }
 }
