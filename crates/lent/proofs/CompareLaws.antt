@@ -6,7 +6,6 @@ use mathlib.Core.List.{List, [], _∷_}
 use Prim.Native.Nat.{ℕ, suc, _+_, _<_, _≤_}
 use native.Mathlib.Numerals.{add-one}
 use native.Mathlib.Omega.{arith}
-use borrow.Author.Tests.{leb-true}
 use lib.Dec.{ltb}
 use lib.ListN.{length, take, drop, length-take, length-drop}
 use lib.Seq.{drop-cons, take-all}
@@ -21,7 +20,6 @@ use Rattle.constraint.specs.declared.Broken.the-variants.{Nowhere, At}
 use Rattle.constraint.specs.declared.Clocks.{Clocks}
 use Rattle.constraint.specs.declared.Constraint.{Constraint}
 use Rattle.constraint.specs.declared.Word.{Word}
-use Rattle.constraint.proofs.Booleans.{and-l}
 use Rattle.constraint.proofs.Demand3.{nowhere}
 use Rattle.constraint.proofs.Words.{only-zero}
 use Rattle.constraint.proofs.TickSets.{bits-zero}
@@ -56,13 +54,13 @@ module _ (ws vs : List Word) (h : length ws ≡ 64) (k : length vs ≡ 64) where
   clocks-kept (r ∷ rs) i c = clocks-kept rs (suc i) (compared c i r (wordAt ws i) (wordAt vs i))
 
   -- ---- 59
-  unfit-found : (rs : List Constraint) (i : ℕ) (c : Comparison) → c .clocks .count ≤ 32 → i + length rs ≤ 64 → (b : Broken)
+  unfit-found : (rs : List Constraint) (i : ℕ) (c : Comparison) → countsFit (c .clocks) ≡ true → i + length rs ≤ 64 → (b : Broken)
       → placed (comparedAll i c rs ws vs .unfit) b ≡ placed (c .unfit) (firstOf (firstUnfit (c .clocks) (bits (c .earlier)) (suc i) rs) b)
   unfolding comparedAll compared
-  unfit-found [] i c few room b = refl
-  unfit-found (r ∷ rs) i c few room b =
-      unfit-found rs (suc i) (compared c i r (wordAt ws i) (wordAt vs i)) few (omega (arith, room)) b
-      ∙ unfit-on (c .clocks) few (c .earlier) (c .unfit) i r rs b (omega (arith, room))
+  unfit-found [] i c ok room b = refl
+  unfit-found (r ∷ rs) i c ok room b =
+      unfit-found rs (suc i) (compared c i r (wordAt ws i) (wordAt vs i)) ok (omega (arith, room)) b
+      ∙ unfit-on (c .clocks) ok (c .earlier) (c .unfit) i r rs b (omega (arith, room))
 
   -- ---- 60, of one of the configurations, whose place is read by g
   out-found : (g : Comparison → ℕ) (us : List Word) → length us ≡ 64 → ((c : Comparison) (i : ℕ) (r : Constraint) → g (compared c i r (wordAt ws i) (wordAt vs i)) ≡ lowest (g c) (inRange r (wordAt us i)) (placeOf i))
@@ -94,7 +92,7 @@ module _ (ws vs : List Word) (h : length ws ≡ 64) (k : length vs ≡ 64) where
     answer-59 = rw (clocks-kept (take 64 rs) 0 (beginsSame clocks)) (go (countsFit clocks) refl)
       where
         go : (x : Bool) → countsFit clocks ≡ x → cond x (placed (to .unfit) (cond (ltb 64 (length rs)) (at 65) Nowhere)) (at 0) ≡ cond x (firstUnfit clocks none 1 rs) (at 0)
-        go true e = unfit-found (take 64 rs) 0 (beginsSame clocks) (leb-true (clocks .count) 32 (and-l _ _ e)) (omega (arith, length-take 64 rs)) _ ∙ rw bits-zero (sym (unfit-is clocks rs))
+        go true e = unfit-found (take 64 rs) 0 (beginsSame clocks) e (omega (arith, length-take 64 rs)) _ ∙ rw bits-zero (sym (unfit-is clocks rs))
         go false e = refl
 
     module _ (p : brokenRecord clocks rs ≡ Nowhere) where

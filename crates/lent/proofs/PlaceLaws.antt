@@ -1,31 +1,33 @@
 -- Places as numbers, a turn of the loop over the words beyond the records, and a tick set that is shifted. Assumes nothing.
 use mathlib.Core.Path.{_≡_, refl, sym, ap, _∙_}
-use mathlib.Core.Bool.{Bool, true, false, cond}
+use mathlib.Core.Bool.{Bool, true, false, cond, _||_}
 use mathlib.Core.List.{List, [], _∷_}
 use Prim.Native.Nat.{ℕ, zero, suc, _+_, _/_, _<_, _≤_, _^_}
 use native.Mathlib.Nat.{div-eq-of-lt, div-add-mod', mod-lt, lt-of-lt-of-le}
 use native.Mathlib.Numerals.{add-one}
 use native.Mathlib.Omega.{arith}
-use borrow.Author.Tests.{lt-ltb, le-ltb, ltb-true, le-leb}
-use lib.Dec.{ltb, leb·suc-suc}
+use borrow.Author.Tests.{lt-ltb, le-ltb, ltb-true, leb-true, le-leb}
+use lib.Dec.{ltb, leb, leb·suc-suc}
 use lib.ListN.{length, take, drop, getD, drop-of-length-le}
 use lib.Pow.{pow-pos, pow-mono}
 use lib.Seq.{drop-cons}
-use Rattle.constraint.specs.Lists.{at, empty, recordFits, firstUnfit, brokenRecord, firstOut}
-use Rattle.constraint.specs.Look.{fitted}
+use Rattle.constraint.specs.Lists.{at, empty, recordFits, firstUnfit, countsFit, brokenRecord, firstOut}
+use Rattle.constraint.specs.Look.{fittedAmong, fitted}
 use Rattle.constraint.specs.Meaning.{inRange, definedOf}
 use Rattle.constraint.specs.Ticks.{Ticks, none, addingAll, bits}
 use Rattle.constraint.specs.declared.Broken.{Broken}
 use Rattle.constraint.specs.declared.Broken.the-variants.{Nowhere}
 use Rattle.constraint.specs.declared.Clocks.{Clocks}
 use Rattle.constraint.specs.declared.Constraint.{Constraint}
+use Rattle.constraint.specs.declared.Fitted.{Fitted}
 use Rattle.constraint.specs.declared.Word.{Word}
-use Rattle.constraint.proofs.Booleans.{and-l}
+use Rattle.constraint.proofs.Booleans.{and-l, and-r}
 use Rattle.constraint.proofs.Demand3.{clocks-pass, records-pass}
+use Rattle.constraint.proofs.OneMore.{named-fits}
 use Rattle.constraint.proofs.Walk.{defined-bits}
 use Rattle.judging.specs.Code.{firstOf}
 use Rattle.judging.specs.Single.{beyondClocks}
-use Rattle.lent.specs.Places.{placeOf, lowest, placed}
+use Rattle.lent.specs.Places.{placeOf, lowest, fittedHere, placed}
 
 -- ---- places as numbers
 
@@ -55,19 +57,39 @@ first-cond : (x : Bool) (a : Broken) (i : ℕ) (b : Broken) → firstOf (cond x 
 first-cond true a i b = refl
 first-cond false a i b = refl
 
+-- a record that fits among the named clocks, and one that does not
+module _ (clocks : Clocks) (e : ℕ) (r : Constraint) {f : Fitted} (among : f ≡ fittedAmong (clocks .named) e r) where
+  pub among-told : {x : Bool} → f .fits ≡ x → fittedAmong (clocks .named) e r .fits ≡ x
+  among-told h = sym (ap (λ (g : Fitted). g .fits) among) ∙ h
+
+  pub here-among : f .fits ≡ true → f ≡ fittedHere clocks e r
+  here-among h = among ∙ rw (among-told h)
+
+  pub here-other : f .fits ≡ false → {g : Fitted} → g ≡ fitted clocks e r → g ≡ fittedHere clocks e r
+  here-other h q = q ∙ rw (among-told h)
+
+-- where the counts of clocks fit, the first fits among all, too
+here-fits : (clocks : Clocks) → countsFit clocks ≡ true → (e : ℕ) (r : Constraint) → fittedHere clocks e r .fits ≡ fitted clocks e r .fits
+here-fits clocks ok e r = go (fittedAmong (clocks .named) e r .fits) refl
+  where
+    go : (x : Bool) → fittedAmong (clocks .named) e r .fits ≡ x → (x || fitted clocks e r .fits) ≡ fitted clocks e r .fits
+    go true p = sym (named-fits clocks e r (leb-true (clocks .named) (clocks .count) (and-r (leb (clocks .count) 32) _ ok)) p)
+    go false p = refl
+
 -- one record more
-module _ (clocks : Clocks) (few : clocks .count ≤ 32) (e u i : ℕ) (r : Constraint) (rs : List Constraint) (b : Broken) (here : i < 64) where
+module _ (clocks : Clocks) (ok : countsFit clocks ≡ true) (e u i : ℕ) (r : Constraint) (rs : List Constraint) (b : Broken) (here : i < 64) where
   abbrev behind : ℕ → Broken
   behind d = firstOf (firstUnfit clocks (bits d) (suc (suc i)) rs) b
 
   -- where the record fits, the clocks that it defines are added
   adds : (x : Bool) → fitted clocks e r .fits ≡ x → cond x (behind (fitted clocks e r .defined)) (at (suc i)) ≡ cond x (firstOf (firstUnfit clocks (addingAll (definedOf r) (bits e)) (suc (suc i)) rs) b) (at (suc i))
   adds false p = refl
-  adds true p = rw (defined-bits (clocks .count) e r few (and-l _ _ p))
+  adds true p = rw (defined-bits (clocks .count) e r (leb-true (clocks .count) 32 (and-l _ _ ok)) (and-l _ _ p))
 
-  pub unfit-on : placed (lowest u (fitted clocks e r .fits) (placeOf i)) (behind (fitted clocks e r .defined)) ≡ placed u (firstOf (firstUnfit clocks (bits e) (suc i) (r ∷ rs)) b)
+  pub unfit-on : placed (lowest u (fittedHere clocks e r .fits) (placeOf i)) (behind (fittedHere clocks e r .defined)) ≡ placed u (firstOf (firstUnfit clocks (bits e) (suc i) (r ∷ rs)) b)
   unfit-on =
-      lowest-placed u (fitted clocks e r .fits) i _ here
+      ap (λ (x : Bool). placed (lowest u x (placeOf i)) (behind (fitted clocks e r .defined))) (here-fits clocks ok e r)
+      ∙ lowest-placed u (fitted clocks e r .fits) i _ here
       ∙ ap (placed u) (adds (fitted clocks e r .fits) refl ∙ sym (rw (le-leb (suc i) 64 here) (first-cond (fitted clocks e r .fits) _ (suc i) b)))
 
 -- over 64 records, the first 64 of them, or the 65th

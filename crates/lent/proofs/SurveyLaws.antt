@@ -7,7 +7,6 @@ use mathlib.Core.List.{List, [], _∷_, _++_, map}
 use Prim.Native.Nat.{ℕ, suc, _+_, _<_, _≤_}
 use native.Mathlib.Numerals.{add-one}
 use native.Mathlib.Omega.{arith}
-use borrow.Author.Tests.{leb-true}
 use lib.Dec.{ltb}
 use lib.ListN.{length, take, drop, length-set, length-take, take-append-drop}
 use lib.Seq.{drop-cons, drop-set-lt, take-suc-set, take-all, append-snoc}
@@ -26,7 +25,6 @@ use Rattle.constraint.specs.declared.Clocks.{Clocks}
 use Rattle.constraint.specs.declared.Configuration.{Configuration}
 use Rattle.constraint.specs.declared.Constraint.{Constraint}
 use Rattle.constraint.specs.declared.Word.{Word}
-use Rattle.constraint.proofs.Booleans.{and-l}
 use Rattle.constraint.proofs.Demand3.{nowhere, clocks-pass, later-pass}
 use Rattle.constraint.proofs.ImplicitLaws.{reached-same}
 use Rattle.constraint.proofs.Named.{holds-looks, next-looks}
@@ -98,13 +96,13 @@ module _ (k : Walked) (i : ℕ) (r : Constraint) (rs : List Constraint) (h : Roo
 
 -- ---- 59
 
-unfit-found : (rs : List Constraint) (i : ℕ) (k : Walked) → k .known .clocks .count ≤ 32 → i + length rs ≤ 64 → (b : Broken)
+unfit-found : (rs : List Constraint) (i : ℕ) (k : Walked) → countsFit (k .known .clocks) ≡ true → i + length rs ≤ 64 → (b : Broken)
     → placed (surveyed i k rs .known .unfit) b ≡ placed (k .known .unfit) (firstOf (firstUnfit (k .known .clocks) (bits (k .known .earlier)) (suc i) rs) b)
 unfolding surveyed visited
-unfit-found [] i k few room b = refl
-unfit-found (r ∷ rs) i k few room b =
-    unfit-found rs (suc i) (turned i k r) few (omega (arith, room)) b
-    ∙ unfit-on (k .known .clocks) few (k .known .earlier) (k .known .unfit) i r rs b (omega (arith, room))
+unfit-found [] i k ok room b = refl
+unfit-found (r ∷ rs) i k ok room b =
+    unfit-found rs (suc i) (turned i k r) ok (omega (arith, room)) b
+    ∙ unfit-on (k .known .clocks) ok (k .known .earlier) (k .known .unfit) i r rs b (omega (arith, room))
 
 -- ---- 60
 
@@ -225,7 +223,7 @@ module _ (clocks : Clocks) (rs : List Constraint) (c : Configuration) (f : ℕ) 
   answer-59 = rw (clocks-kept (take 64 rs) 0 from) (go (countsFit clocks) refl)
     where
       go : (x : Bool) → countsFit clocks ≡ x → cond x (placed (to .known .unfit) (cond (ltb 64 (length rs)) (at 65) Nowhere)) (at 0) ≡ cond x (firstUnfit clocks none 1 rs) (at 0)
-      go true e = unfit-found (take 64 rs) 0 from (leb-true (clocks .count) 32 (and-l _ _ e)) (omega (arith, length-take 64 rs)) _ ∙ rw bits-zero (sym (unfit-is clocks rs))
+      go true e = unfit-found (take 64 rs) 0 from e (omega (arith, length-take 64 rs)) _ ∙ rw bits-zero (sym (unfit-is clocks rs))
       go false e = refl
 
   module _ (p : brokenRecord clocks rs ≡ Nowhere) where

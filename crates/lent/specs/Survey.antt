@@ -7,7 +7,7 @@ use lib.IntN.{pos}
 use lib.ListN.{set}
 use Rattle.limit.specs.declared.Limit.the-variants.{Records, ConfigurationWord, TickSet}
 use Rattle.constraint.specs.Implicit.{impliedOf}
-use Rattle.constraint.specs.Look.{looked, fitted}
+use Rattle.constraint.specs.Look.{looked}
 use Rattle.constraint.specs.Meaning.{word}
 use Rattle.constraint.specs.SamePlace.{wordAt}
 use Rattle.constraint.specs.Ticks.{bits, withTicks}
@@ -23,7 +23,7 @@ use Rattle.judging.specs.Single.{StepTold, refusesAt, beyondClocks, judgedTold}
 use Rattle.judging.specs.Step.{handedBack}
 use Rattle.judging.specs.declared.Judged.{Judged}
 use Rattle.judging.specs.declared.Outcome.the-variants.{Held, Failed, PastMillion}
-use Rattle.lent.specs.Places.{placeOf, lowest, placed, unfitAt, outAt}
+use Rattle.lent.specs.Places.{placeOf, lowest, fittedHere, placed, unfitAt, outAt}
 use Rattle.lent.specs.declared.Survey.{Survey}
 
 -- before the first record
@@ -76,8 +76,11 @@ added s f i p a w = record {
 abbrev pub ticksHere : Survey → Constraint → (w : Word) → ℕ
 ticksHere s r w = withTicks (s .ticks) (impliedOf (s .clocks .named) r w (bits (s .ticks)))
 
+abbrev pub visitedBy : Fitted → Survey → (i : ℕ) → Constraint → (w : Word) → Survey
+visitedBy p s i r w = added s (ticksHere s r w) i p (looked r w (bits (ticksHere s r w))) w
+
 unfoldable pub visited : Survey → (i : ℕ) → Constraint → (w : Word) → Survey
-visited s i r w = added s (ticksHere s r w) i (fitted (s .clocks) (s .earlier) r) (looked r w (bits (ticksHere s r w))) w
+visited s i r w = visitedBy (fittedHere (s .clocks) (s .earlier) r) s i r w
 
 -- ---- record by record, with the words, of which each is moved as its record is visited
 

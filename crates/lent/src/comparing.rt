@@ -8,6 +8,7 @@ use constraint::Broken;
 use constraint::Clocks;
 use constraint::Configuration;
 use constraint::Constraint;
+use constraint::Fitted;
 use constraint::SamePlace;
 use constraint::Word;
 use limit::Limit;
@@ -31,25 +32,18 @@ pub fn begin_same(clocks: Clocks) -> Comparison
     }
 }
 
-// What record i and its two words add. Where nothing is amiss, that is the clocks that it defines, and whether the words are the same.
-pub fn compare(known: Comparison, i: usize, constraint: Constraint, w: Word, v: Word) -> Comparison
-    ensures { λ r. ⌜ r ≡ c.compared known i constraint w v ⌝ }
+// What a record adds, by how it fits, whether its two words are in range, and whether all words are the same, its own among them.
+fn add(
+    known: Comparison,
+    i: usize,
+    fitted: Fitted,
+    first: bool,
+    second: bool,
+    same: bool,
+) -> Comparison
+    ensures { λ r. ⌜ r ≡ c.added known i fitted first second same ⌝ }
 {
     let clocks = known.clocks;
-    let first = constraint::in_range(constraint, w);
-    let second = constraint::in_range(constraint, v);
-    let fitted = constraint::fit(clocks, known.earlier, constraint);
-    let same = known.same & constraint::same_word(w, v);
-    if fitted.fits & (first & second) {
-        return Comparison {
-            clocks,
-            earlier: fitted.defined,
-            unfit: known.unfit,
-            first: known.first,
-            second: known.second,
-            same,
-        };
-    }
     let place = place_of(i);
     Comparison {
         clocks,
@@ -59,6 +53,32 @@ pub fn compare(known: Comparison, i: usize, constraint: Constraint, w: Word, v: 
         second: lowest(known.second, second, place),
         same,
     }
+}
+
+// What record i and its two words add. Where nothing is amiss, that is the clocks that it defines, and whether the words are the same.
+pub fn compare(known: Comparison, i: usize, constraint: Constraint, w: Word, v: Word) -> Comparison
+    ensures { λ r. ⌜ r ≡ c.compared known i constraint w v ⌝ }
+{
+    let clocks = known.clocks;
+    let first = constraint::in_range(constraint, w);
+    let second = constraint::in_range(constraint, v);
+    let same = known.same & constraint::same_word(w, v);
+    let among = constraint::fit_among(clocks.named, known.earlier, constraint);
+    if among.fits {
+        if first & second {
+            return Comparison {
+                clocks,
+                earlier: among.defined,
+                unfit: known.unfit,
+                first: known.first,
+                second: known.second,
+                same,
+            };
+        }
+        return add(known, i, among, first, second, same);
+    }
+    let fitted = constraint::fit(clocks, known.earlier, constraint);
+    add(known, i, fitted, first, second, same)
 }
 
 fn refused(limit: Limit, place: Place) -> SamePlace

@@ -17,6 +17,7 @@ use limit::Limit;
 use limit::Place;
 use limit::Refusal;
 ghost use mathlib.Core.Path.{_≡_};
+ghost use Rattle.constraint.specs.Look.{fitted};
 ghost use Rattle.judging.specs.Single.{stepTold, beyondClocks};
 ghost use Rattle.lent.specs.Survey as s;
 
@@ -98,25 +99,33 @@ fn add(survey: Survey, ticks: u32, i: usize, fitted: Fitted, seen: Seen, w: Word
     }
 }
 
-// What record i and its word add. A record that defines an implicit clock is looked at with that clock's tick. Where nothing is amiss, what it adds
-// is the ticks, the clocks that it defines, and its word.
+// What record i and its word add, where the record does not fit among the named clocks: it is looked at with the tick of the implicit clock that it
+// defines.
+fn visit_other(survey: Survey, i: usize, constraint: Constraint, w: Word) -> Survey
+    ensures { λ r. ⌜ r ≡ s.visitedBy (fitted (survey .clocks) (survey .earlier) constraint) survey i constraint w ⌝ }
+{
+    let clocks = survey.clocks;
+    let fitted = constraint::fit(clocks, survey.earlier, constraint);
+    let ticks = constraint::with_implied(clocks.named, constraint, w, survey.ticks);
+    let seen = constraint::look(constraint, w, ticks);
+    add(survey, ticks, i, fitted, seen, w)
+}
+
+// What record i and its word add. One that fits among the named clocks makes no implicit clock tick; where nothing else is amiss, what it adds is the
+// clocks that it defines, and its word.
 pub fn visit(survey: Survey, i: usize, constraint: Constraint, w: Word) -> Survey
     ensures { λ r. ⌜ r ≡ s.visited survey i constraint w ⌝ }
 {
     let clocks = survey.clocks;
-    let fitted = constraint::fit(clocks, survey.earlier, constraint);
-    let mut ticks = survey.ticks;
-    if clocks.named <= constraint.defined {
-        ticks = constraint::with_implied(clocks.named, constraint, w, ticks);
-    }
-    let seen = constraint::look(constraint, w, ticks);
-    if fitted.fits {
+    let among = constraint::fit_among(clocks.named, survey.earlier, constraint);
+    if among.fits {
+        let seen = constraint::look(constraint, w, survey.ticks);
         if let Seen::Moves(word) = seen {
             return Survey {
                 clocks,
                 given: survey.given,
-                ticks,
-                earlier: fitted.defined,
+                ticks: survey.ticks,
+                earlier: among.defined,
                 unfit: survey.unfit,
                 out: survey.out,
                 failing: survey.failing,
@@ -124,8 +133,9 @@ pub fn visit(survey: Survey, i: usize, constraint: Constraint, w: Word) -> Surve
                 word,
             };
         }
+        return add(survey, survey.ticks, i, among, seen, w);
     }
-    add(survey, ticks, i, fitted, seen, w)
+    visit_other(survey, i, constraint, w)
 }
 
 // Limit 61: a bit at or above the named count.
