@@ -6,6 +6,10 @@
 //! given configuration, and whether two configurations stand at the same
 //! place."
 //!
+//! Since M-101 a line may be nested: each right side in parentheses is an
+//! implicit clock with a record of its own. The calls on records are told how
+//! many clocks are named, then how many there are, implicit ones included.
+//!
 //! The crate is written from the scope paper (document 01) and the change
 //! requests (document 02) alone, and shares nothing with the monitor that it is
 //! held against. Quoted sentences in these comments are the scope paper's, or a

@@ -5,6 +5,9 @@
 //! a w of its own … No other record and no answer of a call comes in." Two
 //! configurations stand at the same place when every record accepts the same
 //! continuations from its word in the one and from its word in the other.
+//!
+//! "The same-place rule treats them as clocks that a continuation sets freely"
+//! (M-101): implicit clocks are clocks below the clock count like all others.
 
 use std::collections::HashSet;
 
@@ -48,13 +51,16 @@ pub enum SamePlace {
 /// * `upto`: {a} fails from 1, and not from 0.
 ///
 /// `told_apart` looks for such continuations without knowing any of this.
+///
+/// The named count is asked by 59 alone.
 pub fn same_place(
     records: &[Record],
+    named: u64,
     clocks: u64,
     first: &Configuration,
     second: &Configuration,
 ) -> SamePlace {
-    let checked = check_records(records, clocks)
+    let checked = check_records(records, named, clocks)
         .and_then(|()| check_words(records, first))
         .and_then(|()| check_words(records, second));
     if let Err(refusal) = checked {
@@ -80,9 +86,12 @@ struct Reached {
 /// from the other. The shortest are tried first.
 ///
 /// A record looks at its own clocks alone, so of all tick sets that agree on
-/// those only the one without any other clock is tried.
+/// those only the one without any other clock is tried. The named count changes
+/// nothing here, since continuations set named and implicit clocks alike; it is
+/// taken so that all calls are told the same.
 pub fn told_apart(
     record: &Record,
+    _named: u64,
     clocks: u64,
     one: i64,
     other: i64,

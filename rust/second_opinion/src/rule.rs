@@ -78,11 +78,16 @@ impl Record {
         self.kind.defines().then_some(self.defined)
     }
 
-    /// The clocks that the form names, in the order c, a, b.
-    pub(crate) fn clocks(&self) -> impl Iterator<Item = u64> {
+    /// The clocks that the form uses: a and b, or await's a alone.
+    pub(crate) fn operands(&self) -> impl Iterator<Item = u64> {
         let first = (self.kind != Kind::Empty).then_some(self.first);
         let second = (!matches!(self.kind, Kind::Empty | Kind::Await)).then_some(self.second);
-        [self.defines(), first, second].into_iter().flatten()
+        [first, second].into_iter().flatten()
+    }
+
+    /// The clocks that the form names, in the order c, a, b.
+    pub(crate) fn clocks(&self) -> impl Iterator<Item = u64> {
+        self.defines().into_iter().chain(self.operands())
     }
 
     /// The range of the record's word.

@@ -4,7 +4,7 @@ use std::fmt;
 
 use crate::recording::{self, Variable, Variables, Word, Words};
 use crate::step::{advance, start, Stop};
-use crate::{read_table, Configuration, Record, Refusal, Table, WORDS};
+use crate::{read_table, Configuration, Refusal, Table, WORDS};
 
 /// The values that a change may open with.
 const VALUES: [char; 6] = ['0', '1', 'x', 'X', 'z', 'Z'];
@@ -39,7 +39,8 @@ pub struct Report {
     pub verdict: Verdict,
     /// The number of accepted steps.
     pub steps: u64,
-    /// The number of constraints; 0 for a refused table.
+    /// The number of constraints, those of implicit clocks included; 0 for a
+    /// refused table.
     pub constraints: usize,
     /// The configuration after the accepted steps.
     pub configuration: Configuration,
@@ -82,8 +83,8 @@ pub fn run(table: &[u8], recording: &[u8]) -> Report {
 /// "Any other refusal, and a violation, gives the steps accepted so far and the
 /// configuration after them."
 fn run_table(table: &Table, recording: &[u8]) -> Report {
-    let mut monitor = Monitor::start(&table.records);
-    let verdict = match monitor.read(&table.names, recording) {
+    let mut monitor = Monitor::start(table);
+    let verdict = match monitor.read(recording) {
         Ok(()) => Verdict::Accepted,
         Err(verdict) => verdict,
     };
@@ -108,29 +109,30 @@ struct Time(u64);
 struct OpenStep {
     time: Time,
     offset: usize,
+    /// The named clocks that tick; implicit ones "are not recorded" (M-101).
     ticks: u32,
 }
 
 struct Monitor<'t> {
-    records: &'t [Record],
+    table: &'t Table,
     configuration: Configuration,
     steps: Steps,
 }
 
 impl<'t> Monitor<'t> {
-    fn start(records: &'t [Record]) -> Self {
+    fn start(table: &'t Table) -> Self {
         Monitor {
-            records,
-            configuration: start(records),
+            table,
+            configuration: start(&table.records),
             steps: Steps(0),
         }
     }
 
     /// "Reading stops at the first violation or refusal."
-    fn read(&mut self, names: &[String], recording: &[u8]) -> Result<(), Verdict> {
+    fn read(&mut self, recording: &[u8]) -> Result<(), Verdict> {
         let text = recording::text(recording)?;
         let mut words = Words::of(text);
-        let variables = recording::read_header(&mut words, names)?;
+        let variables = recording::read_header(&mut words, &self.table.names)?;
         let mut open: Option<OpenStep> = None;
         for word in words {
             if let Some(digits) = word.text.strip_prefix('#') {
@@ -150,9 +152,11 @@ impl<'t> Monitor<'t> {
     /// mark offset as its place."
     fn judge(&mut self, open: Option<&OpenStep>) -> Result<(), Verdict> {
         let Some(step) = open else { return Ok(()) };
-        advance(self.records, &mut self.configuration, step.ticks).map_err(|stop| match stop {
+        let Table { records, named, .. } = self.table;
+        let moved = advance(records, *named, &mut self.configuration, step.ticks);
+        moved.map_err(|stop| match stop {
             Stop::Fails(index) => Verdict::Violated {
-                line: self.records[index].line,
+                line: records[index].line,
                 time: step.time.0,
             },
             Stop::LeavesItsMillion(_) => Refusal::new(51, step.offset).into(),
@@ -212,13 +216,29 @@ mod tests {
     fn in_a_whole_run_51_has_the_steps_mark_offset_as_its_place() {
         let table = read_table(b"a precedes b").expect("a table");
         let header = "$var event 1 ! a $end $var event 1 \" b $end $enddefinitions $end";
-        let mut monitor = Monitor::start(&table.records);
+        let mut monitor = Monitor::start(&table);
         monitor.configuration[0] = 999_999;
         let recording = format!("{header} #1 1! #2 1! 1\" #3 1! #4");
-        let answer = monitor.read(&table.names, recording.as_bytes());
+        let answer = monitor.read(recording.as_bytes());
         let offset = recording.find("#3").expect("the mark");
         assert_eq!(answer, Err(Verdict::Refused(Refusal::new(51, offset))));
         assert_eq!(monitor.steps, Steps(2));
         assert_eq!(monitor.configuration[0], 1_000_000);
+    }
+
+    /// The same for an implicit lub: b takes its word to -1,000,000, a and b
+    /// together leave it there, and b by itself would take it below.
+    #[test]
+    fn in_a_whole_run_51_of_an_implicit_lub_has_the_same_place() {
+        let table = read_table(b"(a lub b) # c").expect("a table");
+        let header = "$var event 1 ! a $end $var event 1 \" b $end $var event 1 % c $end";
+        let mut monitor = Monitor::start(&table);
+        monitor.configuration[0] = -999_999;
+        let recording = format!("{header} $enddefinitions $end #1 1\" 1% #2 1! 1\" #3 1\" 1%");
+        let answer = monitor.read(recording.as_bytes());
+        let offset = recording.find("#3").expect("the mark");
+        assert_eq!(answer, Err(Verdict::Refused(Refusal::new(51, offset))));
+        assert_eq!(monitor.steps, Steps(2));
+        assert_eq!(monitor.configuration[..2], [-1_000_000, 0]);
     }
 }

@@ -18,9 +18,9 @@ pub enum StepAnswer {
 }
 
 /// The words with which single steps on these records begin, unless the records
-/// are refused (59).
-pub fn start_words(records: &[Record], clocks: u64) -> Result<Configuration, Refusal> {
-    check_records(records, clocks)?;
+/// are refused (59). `named` of the `clocks` clocks are named.
+pub fn start_words(records: &[Record], named: u64, clocks: u64) -> Result<Configuration, Refusal> {
+    check_records(records, named, clocks)?;
     Ok(start(records))
 }
 
@@ -36,19 +36,24 @@ pub(crate) fn start(records: &[Record]) -> Configuration {
 /// One step on a given configuration, which it moves if and only if the step is
 /// accepted: "a refused or violated single step hands back the configuration it
 /// was given, and a violated one names its record, from 1."
+///
+/// "Calls on records are told how many clocks are named, and a tick set holds
+/// those alone" (M-101): `named` of the `clocks` clocks are, those with the
+/// lowest numbers.
 pub fn step(
     records: &[Record],
+    named: u64,
     clocks: u64,
     configuration: &mut Configuration,
     ticks: u32,
 ) -> StepAnswer {
-    let checked = check_records(records, clocks)
+    let checked = check_records(records, named, clocks)
         .and_then(|()| check_words(records, configuration))
-        .and_then(|()| check_ticks(clocks, ticks));
+        .and_then(|()| check_ticks(named, ticks));
     if let Err(refusal) = checked {
         return StepAnswer::Refused(refusal);
     }
-    match advance(records, configuration, ticks) {
+    match advance(records, named, configuration, ticks) {
         Ok(()) => StepAnswer::Accepted,
         Err(Stop::Fails(index)) => StepAnswer::Violated(index as u64 + 1),
         Err(Stop::LeavesItsMillion(index)) => StepAnswer::Refused(Refusal::new(51, index + 1)),
@@ -63,7 +68,8 @@ pub(crate) enum Stop {
     LeavesItsMillion(usize),
 }
 
-/// The step itself, on records and words that have passed the checks.
+/// The step itself, on records, words and named ticks that have passed the
+/// checks.
 ///
 /// "All formulas use the words from before the step", so the new words are
 /// gathered beside the old ones. 51 is asked "after every constraint held"; only
@@ -71,9 +77,11 @@ pub(crate) enum Stop {
 /// towards 0 and stay there.
 pub(crate) fn advance(
     records: &[Record],
+    named: u64,
     configuration: &mut Configuration,
     ticks: u32,
 ) -> Result<(), Stop> {
+    let ticks = with_implicit_ticks(records, named, configuration, ticks);
     let mut next = *configuration;
     for (index, (record, word)) in records.iter().zip(&mut next).enumerate() {
         let (holds, after) = judge(record, *word, ticks);
@@ -89,17 +97,46 @@ pub(crate) fn advance(
     Ok(())
 }
 
-/// 59, with the lowest place: 0 for the clock count, then the records in
-/// order, then 65 for too many of them.
-pub(crate) fn check_records(records: &[Record], clocks: u64) -> Result<(), Refusal> {
-    if clocks > CLOCKS as u64 {
+/// The tick set with the implicit clocks that tick beside the named ones: "each
+/// step works out their ticks, so that their definitions hold" (M-101).
+///
+/// In record order, since an implicit clock rests on named clocks and on
+/// implicit ones defined above it. A definition says when its clock ticks
+/// "exactly", so the clock ticks if and only if the definition holds with it.
+fn with_implicit_ticks(
+    records: &[Record],
+    named: u64,
+    configuration: &Configuration,
+    ticks: u32,
+) -> u32 {
+    let mut ticks = ticks;
+    for (record, &word) in records.iter().zip(configuration) {
+        let Some(clock) = record.defines().filter(|&clock| clock >= named) else {
+            continue;
+        };
+        let with_clock = ticks | 1 << clock;
+        if judge(record, word, with_clock).0 {
+            ticks = with_clock;
+        }
+    }
+    ticks
+}
+
+/// 59, with the lowest place: 0 for a clock count over 32 and for "a named count
+/// above the clock count", then the records in order, then 65 for too many of
+/// them.
+pub(crate) fn check_records(records: &[Record], named: u64, clocks: u64) -> Result<(), Refusal> {
+    if clocks > CLOCKS as u64 || named > clocks {
         return Err(Refusal::new(59, 0));
     }
     let mut defined = ClockSet::default();
     for (index, record) in records.iter().take(WORDS).enumerate() {
-        let fresh = well_formed(record, clocks)
+        // "An implicit clock used without a definition above" (M-101)
+        let known = |clock| clock < named || defined.contains(clock);
+        let in_order = well_formed(record, clocks)
+            && record.operands().all(known)
             && record.defines().is_none_or(|clock| defined.insert(clock));
-        if !fresh {
+        if !in_order {
             return Err(Refusal::new(59, index + 1));
         }
     }
@@ -125,12 +162,25 @@ fn well_formed(record: &Record, clocks: u64) -> bool {
 struct ClockSet(u32);
 
 impl ClockSet {
+    fn contains(&self, clock: u64) -> bool {
+        self.0 & Self::bit(clock) != 0
+    }
+
     /// Puts a clock in; false if it was in already, or has no place here.
     fn insert(&mut self, clock: u64) -> bool {
-        let bit = if clock < CLOCKS as u64 { 1 << clock } else { 0 };
+        let bit = Self::bit(clock);
         let fresh = self.0 & bit != bit;
         self.0 |= bit;
         fresh
+    }
+
+    /// The clock's bit; none where it has no place here.
+    fn bit(clock: u64) -> u32 {
+        if clock < CLOCKS as u64 {
+            1 << clock
+        } else {
+            0
+        }
     }
 }
 
@@ -157,10 +207,11 @@ fn first_outside(
         .position(|(word, range)| !range.contains(word))
 }
 
-/// 61: "tick set with a bit at or above the clock count, place 0".
-fn check_ticks(clocks: u64, ticks: u32) -> Result<(), Refusal> {
+/// 61: "tick set with a bit at or above the clock count, place 0", where M-101
+/// has the named count: "a tick set holds those alone, which 61 counts".
+fn check_ticks(named: u64, ticks: u32) -> Result<(), Refusal> {
     let bits = u32::BITS - ticks.leading_zeros();
-    if u64::from(bits) > clocks {
+    if u64::from(bits) > named {
         return Err(Refusal::new(61, 0));
     }
     Ok(())

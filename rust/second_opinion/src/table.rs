@@ -1,6 +1,7 @@
 //! The table text.
 
 use std::collections::{HashMap, HashSet};
+use std::mem;
 
 use crate::rule::AWAIT_NUMBERS;
 use crate::{Kind, Record, Refusal, CLOCKS, WORDS};
@@ -26,13 +27,22 @@ const FORM_WORDS: [&str; 11] = [
     "upto",
 ];
 
-/// A table that was read.
-#[derive(Clone, Debug, PartialEq, Eq)]
+/// The most parentheses that may stand open (19).
+const OPEN_PARENTHESES: usize = 16;
+
+/// A table that was read. The default is what a refused table leaves: no
+/// records, no names, and both counts 0.
+#[derive(Clone, Debug, Default, PartialEq, Eq)]
 pub struct Table {
-    /// The constraints, in table order.
+    /// The constraints, in table order, those of the implicit clocks straight
+    /// before the constraint of their line.
     pub records: Vec<Record>,
-    /// The names of the clocks, in the order of their numbers.
+    /// The names of the named clocks, in the order of their numbers.
     pub names: Vec<String>,
+    /// How many clocks are named; these have the numbers below it.
+    pub named: u64,
+    /// How many clocks there are, named and implicit.
+    pub clocks: u64,
 }
 
 /// Reads a table: "One constraint a line".
@@ -47,39 +57,39 @@ pub fn read_table(text: &[u8]) -> Result<Table, Refusal> {
             .read_line(line, number)
             .map_err(|condition| Refusal::new(condition, number))?;
     }
-    Ok(Table {
-        records: reader.records,
-        names: reader.names,
-    })
+    Ok(reader.table())
 }
 
 /// What the lines so far have brought.
 #[derive(Default)]
-struct Reader {
-    records: Vec<Record>,
-    names: Vec<String>,
-    clocks: HashMap<String, u64>,
-    defined: HashSet<String>,
+struct Reader<'t> {
+    constraints: Vec<(Constraint<'t>, usize)>,
+    names: Vec<&'t str>,
+    defined: HashSet<&'t str>,
+    implicit: usize,
 }
 
-impl Reader {
+impl<'t> Reader<'t> {
     /// Reads one line, and gives the number of the condition that refuses it.
-    /// The conditions of a line are asked "in number order".
-    fn read_line(&mut self, line: &[u8], number: usize) -> Result<(), u64> {
+    /// The conditions of a line are asked "in number order", 19 and 20 "both
+    /// between 11 and 12" (M-101).
+    fn read_line(&mut self, line: &'t [u8], number: usize) -> Result<(), u64> {
         let text = printable(line).ok_or(11u64)?;
-        let words: Vec<&str> = text.split(' ').filter(|word| !word.is_empty()).collect();
+        let words = words(text);
         if words.is_empty() {
             return Ok(()); // "blank lines count as lines and mean nothing"
         }
+        check_parentheses(&words)?;
         let constraint = Constraint::fit(&words).ok_or(12u64)?;
-        if constraint.names().any(|name| name.len() > NAME_BYTES) {
+        // In a form whatever looks like a name is one, at any depth.
+        let names: Vec<&str> = words.into_iter().filter(|word| is_name(word)).collect();
+        if names.iter().any(|name| name.len() > NAME_BYTES) {
             return Err(13);
         }
-        let awaited = match constraint.awaited {
-            Some(digits) => await_number(digits).ok_or(14u64)?,
-            None => 0,
-        };
-        if constraint.names_a_clock_twice() {
+        if !constraint.forms().all(Form::number_in_range) {
+            return Err(14);
+        }
+        if named_twice(&names) {
             return Err(15);
         }
         if constraint
@@ -88,122 +98,242 @@ impl Reader {
         {
             return Err(16);
         }
-        let new_clocks = constraint
-            .names()
-            .filter(|&name| !self.clocks.contains_key(name))
-            .count();
-        if self.clocks.len() + new_clocks > CLOCKS {
+        let new_names = names.iter().filter(|name| !self.names.contains(name));
+        let implicit = self.implicit + constraint.inner.len();
+        if self.names.len() + new_names.count() + implicit > CLOCKS {
             return Err(17);
         }
-        if self.records.len() == WORDS {
+        // One record for each line so far, for each implicit clock, and for
+        // this line.
+        if self.constraints.len() + implicit + 1 > WORDS {
             return Err(18);
         }
-        self.add(&constraint, awaited, number);
+        for name in names {
+            if !self.names.contains(&name) {
+                self.names.push(name);
+            }
+        }
+        self.defined.extend(constraint.defined);
+        self.implicit = implicit;
+        self.constraints.push((constraint, number));
         Ok(())
     }
 
-    fn add(&mut self, constraint: &Constraint, awaited: u64, line: usize) {
-        if let Some(name) = constraint.defined {
-            self.defined.insert(name.to_owned());
+    /// The records of all lines, now that all names are known: implicit clocks
+    /// are numbered "after the named clocks' numbers" (M-101).
+    fn table(self) -> Table {
+        let named = self.names.len() as u64;
+        let numbers: HashMap<&str, u64> = self.names.iter().copied().zip(0..).collect();
+        let mut records = Vec::new();
+        let mut clocks = named;
+        for (constraint, line) in &self.constraints {
+            // The line's first inner expression has this number.
+            let first_inner = clocks;
+            let clock = |part: Part| match part {
+                Part::Word(name) => numbers[name],
+                Part::Inner(index) => first_inner + index as u64,
+            };
+            let record = |defined: Option<u64>, form: &Form| Record {
+                kind: form.kind,
+                defined: defined.unwrap_or_default(),
+                first: clock(form.first),
+                second: form.second.map_or(0, clock),
+                number: form.number,
+                line: *line as u64,
+            };
+            for form in &constraint.inner {
+                records.push(record(Some(clocks), form));
+                clocks += 1;
+            }
+            let defined = constraint.defined.map(|name| clock(Part::Word(name)));
+            records.push(record(defined, &constraint.own));
         }
-        // In the order c, a, b: the order in which they stand in the line.
-        let defined = constraint.defined.map_or(0, |name| self.clock(name));
-        let first = self.clock(constraint.first);
-        let second = constraint.second.map_or(0, |name| self.clock(name));
-        self.records.push(Record {
-            kind: constraint.kind,
-            defined,
-            first,
-            second,
-            number: awaited,
-            line: line as u64,
-        });
-    }
-
-    /// "Clocks are numbered from 0 at first appearance."
-    fn clock(&mut self, name: &str) -> u64 {
-        if let Some(&clock) = self.clocks.get(name) {
-            return clock;
+        Table {
+            records,
+            names: self.names.into_iter().map(str::to_owned).collect(),
+            named,
+            clocks,
         }
-        let clock = self.names.len() as u64;
-        self.names.push(name.to_owned());
-        self.clocks.insert(name.to_owned(), clock);
-        clock
     }
 }
 
 /// A line that fits a form, its names and digits still of any length.
 struct Constraint<'t> {
-    kind: Kind,
+    /// The right sides in parentheses, in the order of their closing
+    /// parentheses: "inner before outer, left before right" (M-101).
+    inner: Vec<Form<'t>>,
+    /// The name left of `clockDef`.
     defined: Option<&'t str>,
-    first: &'t str,
-    second: Option<&'t str>,
-    awaited: Option<&'t str>,
+    /// What is left of the line with each inner right side as one part.
+    own: Form<'t>,
 }
 
 impl<'t> Constraint<'t> {
     /// The form that the words of a line fit, if there is one.
+    ///
+    /// One pass over the words. An opening parenthesis puts aside what stands
+    /// before it; the closing one takes it up again, with the right side
+    /// between the two as a single part of it.
     fn fit(words: &[&'t str]) -> Option<Self> {
-        let constraint = match *words {
-            [a, "=", b] => Self::relation(Kind::Coincides, a, b),
-            [a, "#", b] => Self::relation(Kind::Excludes, a, b),
-            [a, "isSubClockOf", b] => Self::relation(Kind::SubClock, a, b),
-            [a, "strictly", "precedes", b] => Self::relation(Kind::StrictlyPrecedes, a, b),
-            [a, "precedes", b] => Self::relation(Kind::Precedes, a, b),
-            [c, "clockDef", "await", n, a] => Self::awaiting(c, n, a),
-            [c, "clockDef", a, "clockUnion", b] => Self::definition(Kind::Union, c, a, b),
-            [c, "clockDef", a, "clockInter", b] => Self::definition(Kind::Inter, c, a, b),
-            [c, "clockDef", a, "lub", b] => Self::definition(Kind::Lub, c, a, b),
-            [c, "clockDef", a, "glb", b] => Self::definition(Kind::Glb, c, a, b),
-            [c, "clockDef", a, "strictly", "sampled", b] => {
-                Self::definition(Kind::StrictlySampled, c, a, b)
+        let mut inner = Vec::new();
+        let mut put_aside = Vec::new();
+        let mut parts = Vec::new();
+        for &word in words {
+            match word {
+                "(" => put_aside.push(mem::take(&mut parts)),
+                ")" => {
+                    let form = Form::right_side(&parts)?;
+                    parts = put_aside.pop()?;
+                    parts.push(Part::Inner(inner.len()));
+                    inner.push(form);
+                }
+                _ => parts.push(Part::Word(word)),
             }
-            [c, "clockDef", a, "sampled", b] => Self::definition(Kind::Sampled, c, a, b),
-            [c, "clockDef", a, "upto", b] => Self::definition(Kind::Upto, c, a, b),
-            _ => return None,
+        }
+        let (defined, own) = match parts[..] {
+            [Part::Word(c), Part::Word("clockDef"), ref right @ ..] if is_name(c) => {
+                (Some(c), Form::right_side(right)?)
+            }
+            ref both_sides => (None, Form::relation(both_sides)?),
         };
-        let fits = constraint.names().all(is_name) && constraint.awaited.is_none_or(is_digits);
-        fits.then_some(constraint)
+        // What is still put aside has lost its partner, which is 20.
+        put_aside.is_empty().then_some(Constraint {
+            inner,
+            defined,
+            own,
+        })
     }
 
-    fn relation(kind: Kind, a: &'t str, b: &'t str) -> Self {
-        Constraint {
+    /// All forms of the line.
+    fn forms(&self) -> impl Iterator<Item = &Form<'t>> {
+        self.inner.iter().chain([&self.own])
+    }
+}
+
+/// A part of a line, or of what stands between two parentheses.
+#[derive(Clone, Copy)]
+enum Part<'t> {
+    /// A word, which as an operand must be a name.
+    Word(&'t str),
+    /// A right side in parentheses, by its index among those of the line.
+    Inner(usize),
+}
+
+impl Part<'_> {
+    /// "An operand, also that of `await n`, may be a right side of clockDef in
+    /// parentheses" (M-101); else it is a name.
+    fn is_operand(self) -> bool {
+        match self {
+            Part::Word(word) => is_name(word),
+            Part::Inner(_) => true,
+        }
+    }
+}
+
+/// A relation or a right side, without the clock that is defined.
+struct Form<'t> {
+    kind: Kind,
+    first: Part<'t>,
+    second: Option<Part<'t>>,
+    number: u64,
+}
+
+impl<'t> Form<'t> {
+    /// The relation that these parts are, if they are one.
+    fn relation(parts: &[Part<'t>]) -> Option<Self> {
+        use Part::Word;
+        match *parts {
+            [a, Word("="), b] => Self::of_two(Kind::Coincides, a, b),
+            [a, Word("#"), b] => Self::of_two(Kind::Excludes, a, b),
+            [a, Word("isSubClockOf"), b] => Self::of_two(Kind::SubClock, a, b),
+            [a, Word("strictly"), Word("precedes"), b] => {
+                Self::of_two(Kind::StrictlyPrecedes, a, b)
+            }
+            [a, Word("precedes"), b] => Self::of_two(Kind::Precedes, a, b),
+            _ => None,
+        }
+    }
+
+    /// The right side of clockDef that these parts are, if they are one.
+    fn right_side(parts: &[Part<'t>]) -> Option<Self> {
+        use Part::Word;
+        match *parts {
+            [Word("await"), Word(n), a] => Self::awaiting(n, a),
+            [a, Word("clockUnion"), b] => Self::of_two(Kind::Union, a, b),
+            [a, Word("clockInter"), b] => Self::of_two(Kind::Inter, a, b),
+            [a, Word("lub"), b] => Self::of_two(Kind::Lub, a, b),
+            [a, Word("glb"), b] => Self::of_two(Kind::Glb, a, b),
+            [a, Word("strictly"), Word("sampled"), b] => Self::of_two(Kind::StrictlySampled, a, b),
+            [a, Word("sampled"), b] => Self::of_two(Kind::Sampled, a, b),
+            [a, Word("upto"), b] => Self::of_two(Kind::Upto, a, b),
+            _ => None,
+        }
+    }
+
+    fn of_two(kind: Kind, a: Part<'t>, b: Part<'t>) -> Option<Self> {
+        (a.is_operand() && b.is_operand()).then_some(Form {
             kind,
-            defined: None,
             first: a,
             second: Some(b),
-            awaited: None,
-        }
+            number: 0,
+        })
     }
 
-    fn definition(kind: Kind, c: &'t str, a: &'t str, b: &'t str) -> Self {
-        Constraint {
-            defined: Some(c),
-            ..Self::relation(kind, a, b)
-        }
-    }
-
-    fn awaiting(c: &'t str, n: &'t str, a: &'t str) -> Self {
-        Constraint {
+    fn awaiting(n: &str, a: Part<'t>) -> Option<Self> {
+        let number = value(n)?;
+        a.is_operand().then_some(Form {
             kind: Kind::Await,
-            defined: Some(c),
             first: a,
             second: None,
-            awaited: Some(n),
+            number,
+        })
+    }
+
+    /// Whether the form is no "await number outside 1 to 1,000,000".
+    fn number_in_range(&self) -> bool {
+        self.kind != Kind::Await || AWAIT_NUMBERS.contains(&self.number)
+    }
+}
+
+/// The words of a line: "parted by one or more spaces", and "a parenthesis is a
+/// word even without spaces" (M-101).
+fn words(line: &str) -> Vec<&str> {
+    let mut words = Vec::new();
+    let mut rest = line.trim_start_matches(' ');
+    while !rest.is_empty() {
+        let length = rest.find([' ', '(', ')']).unwrap_or(rest.len());
+        let (word, behind) = rest.split_at(length.max(1));
+        words.push(word);
+        rest = behind.trim_start_matches(' ');
+    }
+    words
+}
+
+/// "19 when over sixteen parentheses stand open, a closer without partner
+/// closing none; 20 when one has no partner" (M-101). 19 goes first, wherever
+/// the two stand in the line.
+fn check_parentheses(words: &[&str]) -> Result<(), u64> {
+    let mut open = 0;
+    let mut without_partner = false;
+    for &word in words {
+        match word {
+            "(" if open == OPEN_PARENTHESES => return Err(19),
+            "(" => open += 1,
+            ")" if open == 0 => without_partner = true,
+            ")" => open -= 1,
+            _ => {}
         }
     }
-
-    /// The clocks' names, in the order in which they stand in the line.
-    fn names(&self) -> impl Iterator<Item = &'t str> {
-        [self.defined, Some(self.first), self.second]
-            .into_iter()
-            .flatten()
+    if without_partner || open > 0 {
+        return Err(20);
     }
+    Ok(())
+}
 
-    fn names_a_clock_twice(&self) -> bool {
-        let mut seen = HashSet::new();
-        !self.names().all(|name| seen.insert(name))
-    }
+/// "15 speaks of the whole line" (M-101).
+fn named_twice(names: &[&str]) -> bool {
+    let mut seen = HashSet::new();
+    !names.iter().all(|name| seen.insert(name))
 }
 
 /// The line as text, unless it has a "byte outside 32 to 126".
@@ -220,17 +350,11 @@ fn is_name(word: &str) -> bool {
         && !FORM_WORDS.contains(&word)
 }
 
-fn is_digits(word: &str) -> bool {
-    !word.is_empty() && word.bytes().all(|byte| byte.is_ascii_digit())
-}
-
-/// The value of the digits, unless it is "outside 1 to 1,000,000". A value that
-/// no `u64` holds counts as the largest, which is outside as well.
-fn await_number(digits: &str) -> Option<u64> {
-    let value = digits.bytes().fold(0, |value: u64, digit| {
-        value
-            .saturating_mul(10)
-            .saturating_add(u64::from(digit - b'0'))
-    });
-    AWAIT_NUMBERS.contains(&value).then_some(value)
+/// The value of a run of digits, unless the word is none. A value that no `u64`
+/// holds counts as the largest, which is out of an await number's range as well.
+fn value(word: &str) -> Option<u64> {
+    word.chars().try_fold(0u64, |value, c| {
+        let digit = c.to_digit(10)?;
+        Some(value.saturating_mul(10).saturating_add(u64::from(digit)))
+    })
 }

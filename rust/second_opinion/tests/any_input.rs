@@ -31,8 +31,30 @@ impl Numbers {
 fn random_words_make_no_run_panic() {
     let mut numbers = Numbers(1);
     let table_words = [
-        "a", "b", "c", "d", "=", "#", "clockDef", "lub", "await", "3", "\n", "precedes", "\n",
-        "strictly", "sampled", "upto", "0", "\t", "ü",
+        "a",
+        "b",
+        "c",
+        "d",
+        "=",
+        "#",
+        "clockDef",
+        "lub",
+        "await",
+        "3",
+        "\n",
+        "precedes",
+        "\n",
+        "strictly",
+        "sampled",
+        "upto",
+        "0",
+        "\t",
+        "ü",
+        "(",
+        ")",
+        "(",
+        ")",
+        "(a lub b)",
     ];
     let recording_words = [
         "$var",
@@ -96,20 +118,21 @@ fn random_numbers_make_no_question_panic() {
             line: numbers.pick(&edges),
         };
         let records = [one(), one(), one()];
-        let clocks = numbers.pick(&edges);
+        let (named, clocks) = (numbers.pick(&edges), numbers.pick(&edges));
         let ticks = numbers.next() as u32;
         let given = words(&[numbers.pick(&near), numbers.pick(&near)]);
         let other = words(&[numbers.pick(&near), numbers.pick(&near)]);
         let count = numbers.below(4) as usize;
-        let (answer, after) = stepped(&records[..count], clocks, given, ticks);
+        let mut after = given;
+        let answer = step(&records[..count], named, clocks, &mut after, ticks);
         if answer != StepAnswer::Accepted {
             assert_eq!(after, given);
         }
-        same_place(&records[..count], clocks, &given, &other);
+        same_place(&records[..count], named, clocks, &given, &other);
         let (holds, word) = judge(&records[0], given[0], ticks);
         assert!(holds || word == given[0]);
         start_word(&records[0]);
-        let found = told_apart(&records[0], clocks, given[0], other[0], 3);
+        let found = told_apart(&records[0], named, clocks, given[0], other[0], 3);
         assert!(found.is_none_or(|sets| (1..=3).contains(&sets.len())));
     }
 }
@@ -142,7 +165,7 @@ fn a_run_does_what_its_single_steps_do() {
             if expected.0 != Verdict::Accepted {
                 continue;
             }
-            match step(&table.records, 5, &mut configuration, by_number) {
+            match step(&table.records, 5, 5, &mut configuration, by_number) {
                 StepAnswer::Accepted => expected = (Verdict::Accepted, time, configuration),
                 StepAnswer::Violated(line) => expected.0 = Verdict::Violated { line, time },
                 StepAnswer::Refused(refusal) => panic!("{refusal:?}"),

@@ -34,11 +34,11 @@ fn the_papers_example_step_by_step() {
         (0b011, [1, 1]),
         (0b110, [0, 0]),
     ] {
-        let answer = step(&table.records, 3, &mut configuration, ticks);
+        let answer = step(&table.records, 3, 3, &mut configuration, ticks);
         assert_eq!(answer, StepAnswer::Accepted);
         assert_eq!(configuration, words(&after));
     }
-    let answer = step(&table.records, 3, &mut configuration, 0b011);
+    let answer = step(&table.records, 3, 3, &mut configuration, 0b011);
     assert_eq!(answer, StepAnswer::Violated(1));
     assert_eq!(configuration, words(&[0, 0]));
 }

@@ -220,7 +220,7 @@ fn non_strict_sampling_waits_for_the_base_clock_after_a_trigger() {
     let records = [record(Kind::Sampled)];
     let mut configuration = words(&[2]);
     for (ticks, after) in [(B, 2), (A, 1), (A, 1), (B | C, 0), (A | B, 0), (B, 0)] {
-        let answer = step(&records, 3, &mut configuration, ticks);
+        let answer = step(&records, 3, 3, &mut configuration, ticks);
         assert_eq!((answer, configuration[0]), (StepAnswer::Accepted, after));
     }
 }
@@ -230,7 +230,7 @@ fn strict_sampling_fires_once() {
     let records = [record(Kind::StrictlySampled)];
     let mut configuration = words(&[2]);
     for (ticks, after) in [(A | B, 1), (A | B | C, 0), (A, 0), (B, 0)] {
-        let answer = step(&records, 3, &mut configuration, ticks);
+        let answer = step(&records, 3, 3, &mut configuration, ticks);
         assert_eq!((answer, configuration[0]), (StepAnswer::Accepted, after));
     }
 }

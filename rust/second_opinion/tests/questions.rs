@@ -19,7 +19,7 @@ fn place_of(
     one: Configuration,
     other: Configuration,
 ) -> SamePlace {
-    same_place(records, clocks, &one, &other)
+    same_place(records, clocks, clocks, &one, &other)
 }
 
 /// The 59 of a list, which both questions and the start words must give.
@@ -27,7 +27,7 @@ fn list_refusal(records: &[Record], clocks: u64) -> Option<u64> {
     let start = [0; WORDS];
     let stepped = stepped(records, clocks, start, 0).0;
     let place = place_of(records, clocks, start, start);
-    let refused = start_words(records, clocks).err();
+    let refused = start_words(records, clocks, clocks).err();
     assert_eq!(refused.map(StepAnswer::Refused), refusal_of(stepped));
     match (stepped, place) {
         (StepAnswer::Refused(one), SamePlace::Refused(other)) => {
@@ -59,8 +59,8 @@ fn single_steps_begin_with_a_start_word_for_each_record() {
         })
         .collect();
     let starts = [0, 0, 0, 0, 0, 0, 0, 0, 0, 0, 7, 2, 2, 1];
-    assert_eq!(start_words(&records, 32), Ok(words(&starts)));
-    assert_eq!(start_words(&[], 0), Ok([0; WORDS]));
+    assert_eq!(start_words(&records, 32, 32), Ok(words(&starts)));
+    assert_eq!(start_words(&[], 0, 0), Ok([0; WORDS]));
 }
 
 #[test]
@@ -313,11 +313,11 @@ fn a_configuration_moves_only_on_an_accepted_step() {
     let records = [record(Kind::Precedes), record(Kind::SubClock)];
     let mut configuration = words(&[1]);
     assert_eq!(
-        step(&records, 3, &mut configuration, B),
+        step(&records, 3, 3, &mut configuration, B),
         StepAnswer::Accepted
     );
     assert_eq!(configuration, words(&[0]));
-    let answer = step(&records, 3, &mut configuration, A);
+    let answer = step(&records, 3, 3, &mut configuration, A);
     assert_eq!(answer, StepAnswer::Violated(2));
     assert_eq!(configuration, words(&[0]));
 }
@@ -328,7 +328,7 @@ fn equal_places_reached_by_different_totals_are_the_same() {
     let walk = |sets: &[u32]| {
         let mut configuration = words(&[0, 0]);
         for &ticks in sets {
-            let answer = step(&records, 3, &mut configuration, ticks);
+            let answer = step(&records, 3, 3, &mut configuration, ticks);
             assert_eq!(answer, StepAnswer::Accepted);
         }
         configuration

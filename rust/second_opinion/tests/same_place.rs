@@ -54,14 +54,14 @@ fn pairs() -> Vec<(Record, u64, i64, i64)> {
 }
 
 fn rule(record: Record, clocks: u64, one: i64, other: i64) -> SamePlace {
-    same_place(&[record], clocks, &words(&[one]), &words(&[other]))
+    same_place(&[record], clocks, clocks, &words(&[one]), &words(&[other]))
 }
 
 #[test]
 fn the_rule_says_what_the_search_finds_for_all_forms_and_small_words() {
     let mut apart = 0;
     for (record, clocks, one, other) in pairs() {
-        let found = told_apart(&record, clocks, one, other, 8);
+        let found = told_apart(&record, clocks, clocks, one, other, 8);
         let expected = match &found {
             Some(_) => SamePlace::Different,
             None => SamePlace::Same,
@@ -84,7 +84,7 @@ fn the_same_place_is_not_told_apart_by_longer_continuations_either() {
     for (record, clocks) in records() {
         for word in small_words(record.kind) {
             assert_eq!(rule(record, clocks, word, word), SamePlace::Same);
-            assert_eq!(told_apart(&record, clocks, word, word, 200), None);
+            assert_eq!(told_apart(&record, clocks, clocks, word, word, 200), None);
         }
     }
 }
@@ -112,7 +112,7 @@ fn the_search_misses_nothing_that_all_continuations_up_to_4_sets_show() {
         let shortest = all
             .iter()
             .find(|list| accepts(&record, one, list) != accepts(&record, other, list));
-        let found = told_apart(&record, clocks, one, other, 4);
+        let found = told_apart(&record, clocks, clocks, one, other, 4);
         let lengths = (shortest.map(Vec::len), found.as_ref().map(Vec::len));
         assert_eq!(lengths.0, lengths.1, "{record:?} {one} {other}");
     }
@@ -144,20 +144,20 @@ fn the_papers_precedes_at_0_and_at_1() {
     assert!(!accepts(&record, 0, &[B, A]));
     assert!(accepts(&record, 1, &[A, B]));
     assert!(accepts(&record, 1, &[B, A]));
-    assert_eq!(told_apart(&record, 3, 0, 1, 1), Some(vec![B]));
+    assert_eq!(told_apart(&record, 3, 3, 0, 1, 1), Some(vec![B]));
 }
 
 #[test]
 fn the_empty_continuation_tells_nothing_apart() {
     for (record, clocks, one, other) in pairs() {
-        assert_eq!(told_apart(&record, clocks, one, other, 0), None);
+        assert_eq!(told_apart(&record, clocks, clocks, one, other, 0), None);
     }
 }
 
 #[test]
 fn the_lengths_that_are_needed() {
     let length = |kind, one, other| {
-        let found = told_apart(&record(kind), 3, one, other, 50);
+        let found = told_apart(&record(kind), 3, 3, one, other, 50);
         found.map(|continuation| continuation.len())
     };
     assert_eq!(length(Kind::StrictlyPrecedes, 4, 9), Some(5));
@@ -177,8 +177,8 @@ fn the_lengths_that_are_needed() {
 #[test]
 fn a_depth_that_does_not_suffice_finds_nothing() {
     let record = record(Kind::Precedes);
-    assert_eq!(told_apart(&record, 3, 4, 9, 4), None);
-    assert_eq!(told_apart(&record, 3, 4, 9, 5), Some(vec![B; 5]));
+    assert_eq!(told_apart(&record, 3, 3, 4, 9, 4), None);
+    assert_eq!(told_apart(&record, 3, 3, 4, 9, 5), Some(vec![B; 5]));
 }
 
 /// What the comment on `same_place` says tells v < w apart, and from which of
@@ -245,7 +245,7 @@ fn one_record_that_tells_apart_is_enough() {
     });
     let start: Vec<i64> = records.iter().map(start_word).collect();
     let one = words(&start);
-    assert_eq!(same_place(&records, 20, &one, &one), SamePlace::Same);
+    assert_eq!(same_place(&records, 20, 20, &one, &one), SamePlace::Same);
     for (index, kind) in KINDS.into_iter().enumerate() {
         let moved = small_words(kind)
             .into_iter()
@@ -253,7 +253,13 @@ fn one_record_that_tells_apart_is_enough() {
         let Some(moved) = moved else { continue };
         let mut other = one;
         other[index] = moved;
-        assert_eq!(same_place(&records, 20, &one, &other), SamePlace::Different);
-        assert_eq!(same_place(&records, 20, &other, &one), SamePlace::Different);
+        assert_eq!(
+            same_place(&records, 20, 20, &one, &other),
+            SamePlace::Different
+        );
+        assert_eq!(
+            same_place(&records, 20, 20, &other, &one),
+            SamePlace::Different
+        );
     }
 }

@@ -53,14 +53,14 @@ pub fn words(first: &[i64]) -> Configuration {
     configuration
 }
 
-/// A single step by value.
+/// A single step by value, all clocks being named.
 pub fn stepped(
     records: &[Record],
     clocks: u64,
     mut configuration: Configuration,
     ticks: u32,
 ) -> (StepAnswer, Configuration) {
-    let answer = step(records, clocks, &mut configuration, ticks);
+    let answer = step(records, clocks, clocks, &mut configuration, ticks);
     (answer, configuration)
 }
 
@@ -100,4 +100,33 @@ pub fn verdict(table: &str, recording: impl AsRef<[u8]>) -> (Verdict, u64) {
 
 pub fn refused_run(number: u64, place: usize, steps: u64) -> (Verdict, u64) {
     (Verdict::Refused(refusal(number, place)), steps)
+}
+
+/// `a` over `b`, as read from a table: the defined clock and the number are
+/// those of a relation, 0.
+pub fn relation(kind: Kind, a: u64, b: u64, line: u64) -> Record {
+    Record {
+        kind,
+        defined: 0,
+        first: a,
+        second: b,
+        number: 0,
+        line,
+    }
+}
+
+/// `c clockDef a … b`, as read from a table.
+pub fn definition(kind: Kind, c: u64, a: u64, b: u64, line: u64) -> Record {
+    Record {
+        defined: c,
+        ..relation(kind, a, b, line)
+    }
+}
+
+/// `c clockDef await n a`, as read from a table.
+pub fn await_definition(c: u64, n: u64, a: u64, line: u64) -> Record {
+    Record {
+        number: n,
+        ..definition(Kind::Await, c, a, 0, line)
+    }
 }
