@@ -46,8 +46,11 @@ module _ (t : List ℕ) (ns : Names) where
   placed-clocks (both-inside k x y) s m e =
       let p = placed-clocks x s m e in
       let q = placed-clocks y (placed t ns s x .left) (m + implicits x) p in
-      with-clocks _ _ ∙ counted-one _ (m + implicits x + implicits y) q ∙ omega arith
-  placed-clocks (awaits-inside n x) s m e = with-clocks _ _ ∙ counted-one _ (m + implicits x) (placed-clocks x s m e) ∙ omega arith
+      with-clocks (placed t ns (placed t ns s x .left) y .left) (sides (Defines k) (placed t ns s x .clock) (placed t ns (placed t ns s x .left) y .clock) (record { 0 = 0 }))
+      ∙ counted-one _ (m + implicits x + implicits y) q ∙ omega arith
+  placed-clocks (awaits-inside n x) s m e =
+      with-clocks (placed t ns s x .left) (sides (Defines AwaitKind) (placed t ns s x .clock) 0 (record { 0 = parameterOf n }))
+      ∙ counted-one _ (m + implicits x) (placed-clocks x s m e) ∙ omega arith
 
   pub form-clocks : (f : Form Operand) (s : Inner) (m : ℕ) → s .clocks ≡ min 33 m → formOf t ns s f .left .clocks ≡ min 33 (m + formImplicits f)
   form-clocks (relates k x y) s m e = placed-clocks y (placed t ns s x .left) (m + implicits x) (placed-clocks x s m e) ∙ omega arith
@@ -173,12 +176,14 @@ module _ (t : List ℕ) (ns : Names) (us : Words) (n : ℕ) (number : (w : Word)
       let p = placed-stands x s m j ds (all-left us (operandNames x) (operandNames y) a) (inside-left (operandNumbers x) (operandNumbers y) i) (r .0) h in
       let q = placed-stands y (placed t ns s x .left) (m + implicits x) (j + implicits x) (ds ++ operandRecords us 32 n m x) (all-right us (operandNames x) (operandNames y) a) (inside-right (operandNumbers x) (operandNumbers y) i) (r .1) (p .left) in
       let b = both-placed x y s m j ds p q in
-      let e = inside-stands _ (m + (implicits x + implicits y)) (j + (implicits x + implicits y)) ds _ _ (r .2) (both-record d _ _ _ _ _ (b .first) (b .second)) (b .left) in
+      let f : Formed Inner = record { left = placed t ns (placed t ns s x .left) y .left; constraint = sides (Defines d) (placed t ns s x .clock) (placed t ns (placed t ns s x .left) y .clock) (record { 0 = 0 }) } in
+      let e = inside-stands f (m + (implicits x + implicits y)) (j + (implicits x + implicits y)) ds _ _ (r .2) (both-record d _ _ _ _ _ (b .first) (b .second)) (b .left) in
       record { clock = e .0; left = stands-as _ _ _ _ _ _ _ (add-suc m (implicits x + implicits y)) (add-suc j (implicits x + implicits y)) refl (e .1) }
   placed-stands (awaits-inside l x) s m j ds a i k h =
       let r = room-one m (implicits x) k in
       let p = placed-stands x s m j ds a (i .1) (r .0) h in
-      let e = inside-stands _ (m + implicits x) (j + implicits x) ds _ _ (r .1) (await-record _ _ _ _ _ (p .clock) (i .0)) (p .left) in
+      let f : Formed Inner = record { left = placed t ns s x .left; constraint = sides (Defines AwaitKind) (placed t ns s x .clock) 0 (record { 0 = parameterOf l }) } in
+      let e = inside-stands f (m + implicits x) (j + implicits x) ds _ _ (r .1) (await-record _ _ _ _ _ (p .clock) (i .0)) (p .left) in
       record { clock = e .0; left = stands-as _ _ _ _ _ _ _ (add-suc m (implicits x)) (add-suc j (implicits x)) refl (e .1) }
 
   -- ---- forms

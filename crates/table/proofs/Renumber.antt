@@ -37,18 +37,26 @@ module _ (vs : Words) (few : length vs ≤ 32) (n : ℕ) where
   two-renumbered : (ps qs rs ss : List Constraint) → map (renumbered N) ps ≡ rs → map (renumbered N) qs ≡ ss → map (renumbered N) (ps ++ qs) ≡ rs ++ ss
   two-renumbered ps qs rs ss p q = map-append (renumbered N) ps qs ∙ (λ i. p i ++ q i)
 
+  one-renumbered : (rs ss : List Constraint) (r q : Constraint) → map (renumbered N) rs ≡ ss → renumbered N r ≡ q → map (renumbered N) (rs ++ r ∷ []) ≡ ss ++ q ∷ []
+  one-renumbered rs ss r q p e = two-renumbered rs (r ∷ []) ss (q ∷ []) p (ap (λ (z : Constraint). z ∷ []) e)
+
   operand-renumbered : (k : ℕ) (x : Operand) → AllOf vs (operandNames x) → map (renumbered N) (operandRecords vs 32 n k x) ≡ operandRecords vs N n k x
   operand-renumbered k (name w) a = refl
   operand-renumbered k (both-inside d x y) a =
-      two-renumbered _ _ _ _
-      (two-renumbered _ _ _ _ (operand-renumbered k x (all-left vs (operandNames x) (operandNames y) a)) (operand-renumbered (k + implicits x) y (all-right vs (operandNames x) (operandNames y) a)))
-      (ap (λ (r : Constraint). r ∷ []) (side-renumbered k (32 + (k + (implicits x + implicits y))) _ (both d x y) a (implicit-moved (k + (implicits x + implicits y)))))
+      one-renumbered (operandRecords vs 32 n k x ++ operandRecords vs 32 n (k + implicits x) y) (operandRecords vs N n k x ++ operandRecords vs N n (k + implicits x) y)
+      (sideRecord vs 32 n k (32 + (k + (implicits x + implicits y))) (both d x y)) (sideRecord vs N n k (N + (k + (implicits x + implicits y))) (both d x y))
+      (two-renumbered (operandRecords vs 32 n k x) (operandRecords vs 32 n (k + implicits x) y) (operandRecords vs N n k x) (operandRecords vs N n (k + implicits x) y)
+      (operand-renumbered k x (all-left vs (operandNames x) (operandNames y) a)) (operand-renumbered (k + implicits x) y (all-right vs (operandNames x) (operandNames y) a)))
+      (side-renumbered k (32 + (k + (implicits x + implicits y))) (N + (k + (implicits x + implicits y))) (both d x y) a (implicit-moved (k + (implicits x + implicits y))))
   operand-renumbered k (awaits-inside m x) a =
-      two-renumbered _ _ _ _ (operand-renumbered k x a) (ap (λ (r : Constraint). r ∷ []) (side-renumbered k (32 + (k + implicits x)) _ (awaits m x) a (implicit-moved (k + implicits x))))
+      one-renumbered (operandRecords vs 32 n k x) (operandRecords vs N n k x) (sideRecord vs 32 n k (32 + (k + implicits x)) (awaits m x)) (sideRecord vs N n k (N + (k + implicits x)) (awaits m x))
+      (operand-renumbered k x a) (side-renumbered k (32 + (k + implicits x)) (N + (k + implicits x)) (awaits m x) a (implicit-moved (k + implicits x)))
 
   both-renumbered : (k : ℕ) (x y : Operand) → AllOf vs (operandNames x ++ operandNames y)
       → map (renumbered N) (operandRecords vs 32 n k x ++ operandRecords vs 32 n (k + implicits x) y) ≡ operandRecords vs N n k x ++ operandRecords vs N n (k + implicits x) y
-  both-renumbered k x y a = two-renumbered _ _ _ _ (operand-renumbered k x (all-left vs (operandNames x) (operandNames y) a)) (operand-renumbered (k + implicits x) y (all-right vs (operandNames x) (operandNames y) a))
+  both-renumbered k x y a =
+      two-renumbered (operandRecords vs 32 n k x) (operandRecords vs 32 n (k + implicits x) y) (operandRecords vs N n k x) (operandRecords vs N n (k + implicits x) y)
+      (operand-renumbered k x (all-left vs (operandNames x) (operandNames y) a)) (operand-renumbered (k + implicits x) y (all-right vs (operandNames x) (operandNames y) a))
 
   form-renumbered : (k : ℕ) (f : Form Operand) → AllOf vs (formNames f) → (map (renumbered N) (formRecords vs 32 n k f) ≡ formRecords vs N n k f) × (renumbered N (ownRecord vs 32 n k f) ≡ ownRecord vs N n k f)
   form-renumbered k (relates j x y) a = (both-renumbered k x y a, rw (clock-renumbered k x (all-left vs (operandNames x) (operandNames y) a), clock-renumbered (k + implicits x) y (all-right vs (operandNames x) (operandNames y) a)))
@@ -58,4 +66,4 @@ module _ (vs : Words) (few : length vs ≤ 32) (n : ℕ) where
   pub records-renumbered : (k : ℕ) (f : Form Operand) → AllOf vs (formNames f) → map (renumbered N) (recordsOf vs 32 n k f) ≡ recordsOf vs N n k f
   records-renumbered k f a =
       let e = form-renumbered k f a in
-      two-renumbered _ _ _ _ (e .0) (ap (λ (r : Constraint). r ∷ []) (e .1))
+      one-renumbered (formRecords vs 32 n k f) (formRecords vs N n k f) (ownRecord vs 32 n k f) (ownRecord vs N n k f) (e .0) (e .1)

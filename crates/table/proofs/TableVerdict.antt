@@ -86,7 +86,7 @@ module _ (t : List ℕ) where
 
     read-on : (n : ℕ) (rs qs : List Constraint) (table : Table) → Added (clockNames (above ++ l ∷ [])) n (pairs above) l rs qs
         → ReadOn (withLines (clockNames (above ++ l ∷ [])) ls) (n + 1) (pairs (above ++ l ∷ [])) ls qs table → ReadOn (withLines (clockNames above) (l ∷ ls)) n (pairs above) (l ∷ ls) rs table
-    read-on n rs _ table (none-added e) r = line-more n rs rs (r .more) table r refl (blank e (subst (λ (k : ℕ). Recorded _ (n + 1) k ls (r .more)) none (r .recorded)))
+    read-on n rs _ table (none-added e) r = line-more n rs rs (r .more) table r refl (blank e (subst (λ (k : ℕ). Recorded (withLines (clockNames (above ++ l ∷ [])) ls) (n + 1) k ls (r .more)) none (r .recorded)))
       where
         none : pairs (above ++ l ∷ []) ≡ pairs above
         none = let z : pairsIn (wordsOf l) ≡ 0 = ap pairsIn e ∙ unfold pairsIn in refl in omega (arith, pairs-more above l)
