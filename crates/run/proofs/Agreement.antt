@@ -2,8 +2,7 @@
 -- which is completed and judged as the steps in which something ticks alone are. Assumes nothing.
 use Prim.Native.Nat.{ℕ}
 use Rattle.grammar.specs.Building.{clocksIn}
-use Rattle.table.proofs.Passes.{every-table-passes}
-use Rattle.table.proofs.TableVerdict.{read-exactly}
+use Rattle.table.proofs.TableVerdict.{read-exactly, every-table-passes}
 use Rattle.run.specs.Agreement.{RunIsSingleSteps, StepsAsRecorded, SameRuns, TwoRecordings}
 use Rattle.run.specs.Judgement.{timed, untimed}
 use Rattle.run.specs.Run.{recordsOf, startOf, tableOf, recordedBy}

@@ -9,8 +9,7 @@ use Rattle.limit.proofs.Numbers.{refusals-differ}
 use Rattle.constraint.proofs.Demand3.{demand-3}
 use Rattle.constraint.proofs.PlaceRefusals.{same-place-refused}
 use Rattle.table.specs.Reader as table
-use Rattle.table.proofs.Passes.{every-table-passes}
-use Rattle.table.proofs.TableVerdict.{refused-exactly, read-exactly, records-are-forms}
+use Rattle.table.proofs.TableVerdict.{refused-exactly, read-exactly, records-are-forms, every-table-passes}
 use Rattle.recording.specs.Body.{Ending, ended, refusedAt}
 use Rattle.recording.specs.declared.Step.{Step}
 use Rattle.judging.proofs.AnswerLaws.{every-step-answers}

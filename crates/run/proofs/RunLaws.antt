@@ -17,7 +17,7 @@ use Rattle.grammar.specs.Building.{clocksIn}
 use Rattle.table.specs.Reader as table
 use Rattle.limit.specs.declared.Check.the-variants.{Passed, Refused as Unread}
 use Rattle.table.specs.declared.TableRead.{TableRead}
-use Rattle.table.proofs.Passes.{every-table-passes}
+use Rattle.table.proofs.TableVerdict.{every-table-passes}
 use Rattle.limit.specs.declared.Refusal.{Refusal}
 use Rattle.recording.specs.Body.{unmarked, ended, refusedAt, Reading, endsWith, closing, onward, bodySteps}
 use Rattle.limit.specs.Checked.{passed}

@@ -3,8 +3,9 @@
 use mathlib.Core.Path.{_≡_, refl, ap, _∙_, subst}
 use mathlib.Core.Bool.{false}
 use mathlib.Core.List.{List, [], _∷_, _++_, map, append-assoc, nil≢cons}
-use Prim.Native.Nat.{ℕ, _%_, _^_}
+use Prim.Native.Nat.{ℕ, _%_, _^_, _≤_}
 use native.Mathlib.Nat.{mod-lt}
+use native.Mathlib.Omega.{arith}
 use lib.ListN.{length}
 use lib.Pow.{pow-pos}
 use Rattle.constraint.specs.Implicit.{definesImplicit}
@@ -13,7 +14,7 @@ use Rattle.constraint.specs.declared.Constraint.{Constraint}
 use Rattle.grammar.specs.Building.{clocksIn}
 use Rattle.grammar.specs.declared.Table.{Table}
 use Rattle.table.specs.Reader as table
-use Rattle.table.proofs.Passes.{every-table-passes}
+use Rattle.table.proofs.TableVerdict.{every-table-passes}
 use Rattle.recording.specs.Body.{Ending}
 use Rattle.recording.specs.declared.Step.{Step}
 use Rattle.recording.proofs.StepTicks.{named-clock, one-ticking, reading-ticking}
@@ -38,7 +39,7 @@ module _ (t r : List ℕ) (e : table.readTable t .said ≡ table.read) where
   all-named : AllNamed (clocksIn b .named) (recordedBy t r .steps)
   all-named before later s q =
       let n = clocksIn b .named in
-      let room = every-table-passes t e .clocks in
+      let room : n ≤ 32 = omega (arith, every-table-passes t e .clocks) in
       one-ticking n room before later s (rw q at (reading-ticking n room _ (named-clock t (b .names)) r))
 
   pub steps-recorded : map (asRecorded (clocksIn b .named)) (readingBy t r .steps) ≡ recordedBy t r .steps

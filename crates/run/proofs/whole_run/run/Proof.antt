@@ -1,9 +1,8 @@
 -- `run` meets its contract: the table, the header, then the body. Assumes nothing.
 use mathlib.Core.Path.{sym, ap, _∙_}
+use native.Mathlib.Omega.{arith}
 use denote.Ref.{now}
-use Rattle.constraint.proofs.Demand3.{clocks-pass}
-use Rattle.grammar.specs.Building.{clocksIn}
-use Rattle.run.specs.Run.{told, recordsOf}
+use Rattle.run.specs.Run.{told}
 use Rattle.run.proofs.RunLaws.{table-refused, table-passes, header-refused, header-read, header-within}
 use borrow.Author.Needs.{needs}
 use Rattle.run.proofs.whole_run.run.Statement.{statement}
@@ -18,7 +17,7 @@ read-header-requires : tie.Need-read-header-requires
 read-header-requires c κs =
     let m = c .before .before in
     let q = m .before .before .read-table in
-    table-passes _ (now (m .before .before .before .before .before .args .recording)) (q .result) (q .ensures) (m .enum-told .given .1) .clocks
+    omega (arith, table-passes _ (now (m .before .before .before .before .before .args .recording)) (q .result) (q .ensures) (m .enum-told .given .1) .clocks)
 
 returns-2 : tie.Need-returns-2
 returns-2 c =
@@ -32,7 +31,7 @@ clocks-in-requires c κs =
     let h = c .before .before in
     let m = h .before .before .before in
     let q = m .before .before .read-table in
-    clocks-pass (clocksIn (q .result .table)) (recordsOf (q .result .table)) (table-passes _ (now (m .before .before .before .before .before .args .recording)) (q .result) (q .ensures) (m .enum-told .given .1) .records) .0
+    table-passes _ (now (m .before .before .before .before .before .args .recording)) (q .result) (q .ensures) (m .enum-told .given .1) .clocks
 
 judge-body-requires : tie.Need-judge-body-requires
 judge-body-requires c κs =
