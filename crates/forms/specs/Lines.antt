@@ -10,9 +10,9 @@ use Rattle.limit.specs.Limit.{numberOf}
 use Rattle.limit.specs.declared.Limit.{Limit}
 use Rattle.limit.specs.declared.Limit.the-variants.{TableLength, LineByte, NestingDepth, Unpaired, LineForm, NameLength, AwaitNumber, ClockTwice, DefinedTwice, TableClocks, TableConstraints}
 use Rattle.constraint.specs.declared.Constraint.{Constraint}
-use Rattle.constraint.specs.declared.Definition.the-variants.{Union, Await, Upto}
+use Rattle.constraint.specs.declared.Definition.the-variants.{Union, Lub, Glb, Await, Upto}
 use Rattle.constraint.specs.declared.Kind.the-variants.{Relates, Defines}
-use Rattle.constraint.specs.declared.Relation.the-variants.{Precedes}
+use Rattle.constraint.specs.declared.Relation.the-variants.{Coincides, Precedes}
 use Rattle.text.specs.Ascii.{ascii}
 use Rattle.text.specs.Bytes.{allBytes, sameBytes}
 use Rattle.forms.specs.Forms.{Word, Words, Line, grow, parts, nonempty, linesOf, wordsOf, oneOf, nameShape, isName, Right, both, awaits, Form, relates, defines, Operand, name, both-inside, awaits-inside, inner, HasForm}
@@ -244,6 +244,13 @@ nested-counts = refl
 nested-records : map (λ r. r .defined ∷ r .first ∷ r .second ∷ []) (recordsOf (clockNames (nested ∷ [])) 4 1 0 nestedForm) ≡ (4 ∷ 0 ∷ 1 ∷ []) ∷ (5 ∷ 4 ∷ 2 ∷ []) ∷ (0 ∷ 5 ∷ 3 ∷ []) ∷ []
 unfolding standing withLines withNames namesIn parts grow nonempty nameShape oneOf allBytes sameBytes
 nested-records = refl
+
+-- `(a lub b)=(c glb d)`: left before right
+left-first : map (λ r. r .defined ∷ r .first ∷ r .second ∷ []) (recordsOf (ascii "a" ∷ ascii "b" ∷ ascii "c" ∷ ascii "d" ∷ []) 4 1 0
+    (relates Coincides (inner (both Lub (name (ascii "a")) (name (ascii "b")))) (inner (both Glb (name (ascii "c")) (name (ascii "d"))))))
+    ≡ (4 ∷ 0 ∷ 1 ∷ []) ∷ (5 ∷ 2 ∷ 3 ∷ []) ∷ (0 ∷ 4 ∷ 5 ∷ []) ∷ []
+unfolding standing sameBytes
+left-first = refl
 
 -- sixteen that stand open, and a seventeenth; behind a closer without partner; as many of both, and none with its partner
 deep : map (tooDeep 0) (replicate 16 40 ∷ replicate 17 40 ∷ (41 ∷ replicate 17 40) ∷ (replicate 16 40 ++ 41 ∷ 40 ∷ []) ∷ []) ≡ false ∷ true ∷ true ∷ false ∷ []
