@@ -9,7 +9,7 @@ use lib.Dec.{eqb, leb}
 use Rattle.limit.specs.declared.Limit.{Limit}
 use Rattle.constraint.proofs.Booleans.{and-l, and-r}
 use Rattle.text.specs.Bytes.{allBytes}
-use Rattle.forms.specs.Forms.{Words, Line, grow, parts, nonempty, wordsOf, Form, Operand, IsOperand, IsForm, coincides, excludes, sub-clock, strictly-precedes, precedes, clock-def}
+use Rattle.forms.specs.Forms.{Words, Line, grow, parts, nonempty, wordsOf, Form, IsForm, coincides, excludes, sub-clock, strictly-precedes, precedes, clock-def}
 use Rattle.forms.specs.Lines.{namesIn, Some, here, later, Filled, opened, tooDeep, unpaired, Breaks, byte-outside, too-deep, no-partner, no-form, long-name, await-number, name-twice, defined-above, many-clocks, many-constraints, BreaksNothing}
 use Rattle.forms.proofs.SomeLaws.{some-none}
 

@@ -1,12 +1,11 @@
 -- The names of a line that has a form stand among the names of the lines; so a clock that a line defines has a number from that line on, and more
 -- names keep the records. Assumes nothing.
-use mathlib.Core.Path.{_≡_, refl, sym, ap, subst, _∙_}
+use mathlib.Core.Path.{_≡_, refl, subst}
 use mathlib.Core.Bool.{true}
 use mathlib.Core.List.{List, [], _∷_, _++_}
 use Prim.Native.Nat.{ℕ, _+_}
-use Rattle.constraint.specs.declared.Constraint.{Constraint}
-use Rattle.forms.specs.Forms.{Words, Line, Word, wordsOf, oneOf, Right, both, awaits, Form, relates, defines, Operand, name, both-inside, awaits-inside, levels, HasForm}
-use Rattle.forms.specs.Lines.{namesIn, withNames, withLines, clockNames, Some, here, later, DefinesClock, implicits, clockOf, sideRecord, operandRecords, recordsOf}
+use Rattle.forms.specs.Forms.{Words, Line, Word, wordsOf, oneOf, both, awaits, Form, relates, defines, Operand, name, both-inside, awaits-inside, levels, HasForm}
+use Rattle.forms.specs.Lines.{namesIn, withNames, withLines, clockNames, Some, here, later, DefinesClock, implicits, clockOf, operandRecords, recordsOf}
 use Rattle.forms.proofs.ClockNames.{Keeps, AllOf, all-left, all-right, all-kept, names-have, lines-keep, names-more}
 use Rattle.forms.proofs.FormWords.{operandNames, formNames, form-names}
 

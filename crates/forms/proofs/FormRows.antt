@@ -1,6 +1,6 @@
 -- Lines whose operands have some levels: what `formIn` reads is a form of the line's words, every form is read, and row 12 of the limits is that
 -- no form fits. Assumes nothing.
-use mathlib.Core.Path.{_≡_, refl, sym, ap, subst, _∙_}
+use mathlib.Core.Path.{_≡_, refl, sym, ap, _∙_}
 use mathlib.Core.Logic.{_↔_}
 use mathlib.Core.Bool.{Bool, true, false, cond, _&&_}
 use mathlib.Core.List.{List, [], _∷_, _++_, append-assoc}
@@ -13,15 +13,15 @@ use Rattle.text.specs.Bytes.{sameBytes}
 use Rattle.text.specs.Split.{bytesOf, front, rest}
 use Rattle.text.specs.declared.Span.{Span}
 use Rattle.grammar.specs.Building.{provisional, withImplicit}
-use Rattle.grammar.specs.Grammar.{Parsed, noForm, parsed, andThen, Placed, Formed, Operands, token, clockOf, name as «nameRead», sides, expression, isSide, inner as «innerRead», operand, formIn}
+use Rattle.grammar.specs.Grammar.{noForm, parsed, andThen, Placed, Formed, token, clockOf, name as «nameRead», sides, expression, isSide, inner as «innerRead», operand, formIn}
 use Rattle.grammar.specs.Names.{numberIn}
-use Rattle.grammar.specs.Tokens.{is, lookUp, shapeOf, tokenOf}
+use Rattle.grammar.specs.Tokens.{is, lookUp}
 use Rattle.grammar.specs.declared.Inner.{Inner}
 use Rattle.grammar.specs.declared.Names.{Names}
 use Rattle.grammar.specs.declared.Token.the-variants.{Name, Open, Close}
 use Rattle.grammar.proofs.GrammarLaws.{Each, each-only, each-then, name-some, operand-name, inner-some}
 use Rattle.grammar.proofs.TokenLaws.{told-apart}
-use Rattle.forms.specs.Forms.{Word, Words, isName, Right, both, awaits, Form, relates, defines, IsRight, IsForm, Operand, name, both-inside, awaits-inside, inner, IsOperandOf, one-name, in-parentheses, IsOperand}
+use Rattle.forms.specs.Forms.{Word, Words, isName, Right, both, awaits, Form, IsRight, IsForm, Operand, name, both-inside, awaits-inside, inner, IsOperandOf, one-name, in-parentheses, IsOperand}
 use Rattle.forms.proofs.FormLaws.{Opens, by-name, by-other, Took, OperandTaken, Agrees, parameterOf, rightOf, formWith, SideTaken, RightTaken, right-taken, right-side, expression-sound, right-complete, LineTaken, reads-forms, no-form-fits}
 use Rattle.forms.proofs.Said.{said, First, first-is, first-told, some-first}
 use Rattle.forms.proofs.WordLaws.{name-is, open-word, close-word}

@@ -5,7 +5,6 @@ use mathlib.Core.Bool.{cond, true, true≢false, false≢true}
 use mathlib.Core.List.{[], _∷_, _++_, append-assoc, append-nil}
 use Prim.Native.Nat.{ℕ, zero, suc}
 use native.Mathlib.Omega.{arith}
-use Rattle.constraint.specs.declared.Definition.{Definition}
 use Rattle.constraint.specs.declared.Definition.the-variants.{Union, Inter, Lub, Glb, Await as AwaitKind, StrictlySampled, Sampled, Upto}
 use Rattle.constraint.specs.declared.Kind.{Kind}
 use Rattle.constraint.specs.declared.Kind.the-variants.{Empty, Relates, Defines}
@@ -18,7 +17,7 @@ use Rattle.grammar.specs.Grammar.{strictKind, plain, isKind}
 use Rattle.grammar.specs.Tokens.{is, tokenOf, lookUp}
 use Rattle.grammar.specs.declared.Token.the-variants.{Name, Await, Strictly}
 use Rattle.grammar.proofs.KindLaws.{notAwait}
-use Rattle.forms.specs.Forms.{Word, Words, wordsOf, nameShape, isName, Right, both, awaits, Form, relates, defines, IsRight, union, inter, lub, glb, await, strictly-sampled, sampled, upto, IsForm, coincides, excludes, sub-clock, strictly-precedes, precedes, clock-def, Operand, name, inner, IsOperandOf, one-name, in-parentheses, IsOperand, levels, NoLineFitsTwoForms}
+use Rattle.forms.specs.Forms.{Word, Words, wordsOf, nameShape, isName, Right, both, awaits, Form, relates, defines, IsRight, await, IsForm, Operand, name, inner, IsOperandOf, one-name, in-parentheses, IsOperand, levels, NoLineFitsTwoForms}
 use Rattle.forms.proofs.FormLaws.{Opens, by-name, by-other}
 use Rattle.forms.proofs.FormRows.{operands-open}
 use Rattle.forms.proofs.FormShapes.{Between, RightShape, two, waits, right-shape, Shape, relation, definition, shape}

@@ -1,8 +1,8 @@
 -- What is counted along the words of a form is what the form says: for any count that goes by names, parentheses and await numbers, and passes
 -- over the words of kinds. Instances: the names of a line, and its pairs of parentheses. Assumes nothing.
 use mathlib.Core.Path.{_≡_, refl, sym, ap, _∙_}
-use mathlib.Core.Bool.{Bool, true, false, cond, _||_, false≢true}
-use mathlib.Core.List.{List, [], _∷_, _++_, append-assoc, append-nil}
+use mathlib.Core.Bool.{Bool, true, false, _||_, false≢true}
+use mathlib.Core.List.{[], _∷_, _++_, append-assoc, append-nil}
 use Prim.Native.Nat.{ℕ, zero, suc, _+_}
 use native.Mathlib.Omega.{arith}
 use Rattle.constraint.specs.declared.Definition.the-variants.{Union, Inter, Lub, Glb, Await as AwaitKind, StrictlySampled, Sampled, Upto}
@@ -19,7 +19,7 @@ use Rattle.grammar.specs.declared.Token.the-variants.{Name, Digits}
 use Rattle.grammar.proofs.KindLaws.{notAwait}
 use Rattle.grammar.proofs.TokenLaws.{told-apart}
 use Rattle.forms.specs.Forms.{Word, Words, oneOf, nameShape, isName, isDigits, Right, both, awaits, Form, relates, defines, IsRight, IsForm, Operand, name, both-inside, awaits-inside, inner, IsOperandOf, one-name, in-parentheses, IsOperand}
-use Rattle.forms.specs.Lines.{namesIn, pairsIn, implicits, sideImplicits, formImplicits}
+use Rattle.forms.specs.Lines.{namesIn, pairsIn, implicits, formImplicits}
 use Rattle.constraint.proofs.Booleans.{or-l, or-r}
 use Rattle.forms.proofs.FormShapes.{Between, RightShape, two, waits, right-shape, Shape, relation, definition, shape}
 use Rattle.forms.proofs.SomeLaws.{anyOf}

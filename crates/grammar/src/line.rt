@@ -297,7 +297,10 @@ fn operand(line: &[u8], names: Names, inner: Inner, at: usize, level: usize) -> 
     if !is(Token::Open, word) {
         return name(line, names, inner, at);
     }
-    enclosed(line, expression(line, names, inner, word.span.end, level - 1))
+    enclosed(
+        line,
+        expression(line, names, inner, word.span.end, level - 1),
+    )
 }
 
 // A form of the side that the line asks for, with no word after it, which defines a clock.

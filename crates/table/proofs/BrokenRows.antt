@@ -6,7 +6,7 @@ use mathlib.Core.Bool.{Bool, true, false, not, cond, _||_, or-false, false≢tru
 use mathlib.Core.List.{List, [], _∷_, _++_}
 use Prim.Native.Nat.{ℕ, suc, _+_, _≤_, _<_, min}
 use native.Mathlib.Omega.{arith}
-use borrow.Author.Tests.{leb-true, le-leb, ltb-true, lt-ltb}
+use borrow.Author.Tests.{leb-true, le-leb, ltb-true}
 use lib.Dec.{leb, ltb}
 use lib.ListN.{length}
 use Rattle.limit.specs.declared.Limit.the-variants.{LineByte, NestingDepth, Unpaired, NameLength, AwaitNumber, ClockTwice, DefinedTwice, TableClocks, TableConstraints}

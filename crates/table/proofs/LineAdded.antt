@@ -7,7 +7,7 @@ use Prim.Native.Nat.{ℕ, suc, _+_, _≤_, _<_, min}
 use native.Mathlib.Nat.{le-refl}
 use native.Mathlib.Omega.{arith}
 use borrow.Author.Tests.{ltb-false, le-ltb, lt-leb}
-use lib.Dec.{ltb, leb}
+use lib.Dec.{leb}
 use lib.ListN.{length, length-append, length-map, length-take}
 use Rattle.constraint.specs.Lists.{slots}
 use Rattle.constraint.specs.Meaning.{definedBy, definedOf}
@@ -22,7 +22,7 @@ use Rattle.grammar.specs.declared.Builder.{Builder}
 use Rattle.grammar.specs.declared.Inner.{Inner}
 use Rattle.grammar.specs.declared.Names.{Names}
 use Rattle.forms.specs.Forms.{Word, Words, Line, wordsOf, oneOf, both, awaits, Form, relates, defines, Operand, levels, HasForm}
-use Rattle.forms.specs.Lines.{namesIn, pairsIn, constraintsIn, withNames, awaitNumbers, clockNames, pairs, constraints, Some, DefinesClock, standing, formImplicits, formRecords, recordsOf}
+use Rattle.forms.specs.Lines.{namesIn, pairsIn, constraintsIn, withNames, awaitNumbers, clockNames, pairs, constraints, Some, DefinesClock, standing, formImplicits, recordsOf}
 use Rattle.forms.proofs.BlankLines.{form-filled}
 use Rattle.forms.proofs.ClockNames.{AllOf, names-more, pairs-more, constraints-more, standing-below}
 use Rattle.forms.proofs.FormNames.{line-named}

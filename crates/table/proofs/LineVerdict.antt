@@ -7,7 +7,6 @@ use mathlib.Core.List.{List, [], _∷_, _++_}
 use Prim.Native.Nat.{ℕ, suc, _+_, _≤_, _<_, min}
 use native.Mathlib.Omega.{arith}
 use borrow.Author.Tests.{ltb-false, leb-false}
-use lib.Dec.{leb}
 use lib.ListN.{length, take, drop, length-take}
 use Rattle.limit.specs.Checked.{Checked, passed, stopped, refuseIf}
 use Rattle.limit.specs.declared.Limit.{Limit}

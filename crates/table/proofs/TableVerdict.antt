@@ -180,8 +180,7 @@ module _ (t : List ℕ) where
   -- the names and the records are those of the lines, and 59 and 60 let them pass
   read-table : (table : Table) → NothingBroken [] (linesOf t) → ReadOn (clockNames (linesOf t)) 1 0 (linesOf t) [] table → ReadAs t table × Passes table
   read-table table h r =
-      let i : table .implicit ≡ pairs (linesOf t) = r .implicit ∙ omega arith in
-      (
+      let i : table .implicit ≡ pairs (linesOf t) = r .implicit ∙ omega arith in (
         record { names = r .names; records = rw (r .records) (r .recorded); implicit = i },
         record {
           records = rw (r .named, i, r .records) (lines-pass (linesOf t) (r .more) h (r .recorded) (omega (arith, r .clocks)) (omega (arith, r .constraints, ap length (r .records), length-slots (table .count) (table .records))));

@@ -16,6 +16,7 @@ Inv-loop builder names named before records₀ i₀ records i = (i ≤ 64) × (l
 
 abbrev μ-loop : tie.MeasureT-loop
 μ-loop builder names named before records₀ i₀ records i = 64 - i
+
 loop-holds : tie.Need-loop-holds Inv-loop μ-loop
 loop-holds c =
     let e : length (c .before .before .args .builder .records) ≡ 64 = search (needs, length-mapped) in

@@ -32,10 +32,11 @@ loop-again c =
     let l = n .before in
     let v = l .loop in
     let t = now (l .before .before .args .line) in
-    rw (c .opened .ensures)
-    (omega (arith, v .inv .0, opened-most (v .many) (getD t (v .i) 0)),
-    sym (or-assoc (v .deep) _ _) ∙ ap (λ (x : Bool). v .deep || x) (sym (deep-on t (v .many) (v .i) (n .loop-test .taken))) ∙ v .inv .1,
-    sym (or-assoc (v .alone) _ _) ∙ ap (λ (x : Bool). v .alone || x) (sym (paired-on t (v .many) (v .i) (n .loop-test .taken))) ∙ v .inv .2)
+    rw (c .opened .ensures) (
+      omega (arith, v .inv .0, opened-most (v .many) (getD t (v .i) 0)),
+      sym (or-assoc (v .deep) _ _) ∙ ap (λ (x : Bool). v .deep || x) (sym (deep-on t (v .many) (v .i) (n .loop-test .taken))) ∙ v .inv .1,
+      sym (or-assoc (v .alone) _ _) ∙ ap (λ (x : Bool). v .alone || x) (sym (paired-on t (v .many) (v .i) (n .loop-test .taken))) ∙ v .inv .2,
+    )
 
 returns : tie.Need-returns Inv-loop μ-loop
 returns c =

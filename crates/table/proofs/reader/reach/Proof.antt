@@ -1,5 +1,4 @@
 -- `reach` meets its contract. Assumes nothing.
-use mathlib.Core.Path.{_∙_}
 use Rattle.table.proofs.ReaderLaws.{reach-one, reach-other}
 use borrow.Author.Needs.{needs}
 use Rattle.table.proofs.reader.reach.Statement.{statement}
