@@ -4,9 +4,8 @@ use mathlib.Core.List.{map}
 use Prim.Native.Nat.{_≤_, _-_}
 use native.Mathlib.Omega.{arith}
 use lib.ListN.{length, take, length-set}
-use Rattle.constraint.proofs.Walk.{length-mapped}
+use Rattle.constraint.proofs.Walk.{length-mapped, map-on, map-done}
 use Rattle.grammar.specs.Building.{renumbered}
-use Rattle.grammar.proofs.BuildingLaws.{map-on, map-done}
 use borrow.Author.Needs.{needs}
 use Rattle.grammar.proofs.building.finish.Statement.{statement}
 use Rattle.grammar.proofs.building.finish.Tie as tie
