@@ -21,7 +21,7 @@ use Rattle.text.specs.Bytes.{inClass}
 use Rattle.text.specs.Split.{bytesOf, piecesAt}
 use Rattle.text.specs.declared.Class.the-variants.{Newline}
 use Rattle.text.specs.declared.Span.{Span}
-use Rattle.grammar.specs.Building.{start, renumbered, finish}
+use Rattle.grammar.specs.Building.{start, renumbered, finish, clocksIn}
 use Rattle.grammar.specs.declared.Builder.{Builder}
 use Rattle.grammar.specs.declared.Table.{Table}
 use Rattle.forms.specs.Forms.{Words, Line, linesOf, wordsOf, levels}
@@ -225,6 +225,10 @@ module _ (t : List ℕ) where
   read-as (passed table) a e = (a .1, a .2)
   read-as (stopped m q) a e = let z : _≡_ {A = ℕ} 0 1 = cc in absurd (omega arith)
 
+  few-clocks : (c : Checked Table) → Answer c → clocksIn (tellOf c .table) .count ≤ 32
+  few-clocks (passed table) a = a .2 .clocks
+  few-clocks (stopped m q) a = omega arith
+
 -- ---- the claims
 
 pub refused-exactly : RefusedExactly
@@ -242,3 +246,8 @@ records-are-forms t e = read-as t (refuseIf (ltb mostBytes (length t)) TableLeng
 pub every-table-passes : EveryTablePasses
 unfolding readTable
 every-table-passes t e = read-as t (refuseIf (ltb mostBytes (length t)) TableLength 0 (lines t)) (answer t) e .1
+
+-- at most 32 clocks, none where the table is refused
+pub most-clocks : (t : List ℕ) → clocksIn (readTable t .table) .count ≤ 32
+unfolding readTable
+most-clocks t = few-clocks t (refuseIf (ltb mostBytes (length t)) TableLength 0 (lines t)) (answer t)
