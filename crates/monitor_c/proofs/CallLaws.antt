@@ -1,28 +1,27 @@
 -- The checks of each call, in their order, and what it writes where all are passed. Assumes nothing.
-use mathlib.Core.Path.{_≡_, refl}
+use mathlib.Core.Path.{_≡_, refl, sym, ap, _∙_}
 use mathlib.Core.Bool.{true, false}
-use mathlib.Core.List.{List, [], _∷_}
+use mathlib.Core.List.{List, []}
 use Prim.Native.Nat.{ℕ, _%_, _≤_, _<_}
 use native.Mathlib.Omega.{arith}
 use borrow.Author.Tests.{lt-ltb, le-ltb, eq-eqb, ne-eqb}
 use lib.IntN.{ℤ}
-use lib.ListN.{length, set}
-use Rattle.constraint.specs.Lists.{counting}
+use lib.ListN.{length}
+use lib.Seq.{sets}
 use Rattle.constraint.specs.SamePlace.{samePlaceOf}
 use Rattle.table.specs.Reader.{readTable}
 use Rattle.run.specs.Run.{runOf}
 use Rattle.monitor_c.specs.declared.AnswerNumbers.{AnswerNumbers}
 use Rattle.monitor_c.specs.Calls.{written, answerShort, wordsShort, recordsShort, namesShort, recordsRagged, kindUnknown, Left, left, runLeft, runInto, tableLeft, readLeft, readInto, onRecords, answerLeft, placeLeft, placeInto}
-use Rattle.monitor_c.specs.Numbers.{clockOf, recordsOf, kindsKnown, configurationOf, answerAnd}
+use Rattle.monitor_c.specs.Numbers.{clocksOf, recordsOf, kindsKnown, configurationOf, answerAnd}
+use Rattle.monitor_c.proofs.ListLaws.{sets-append, sets-written}
 
--- an answer of three numbers, with two behind it
-pub five : (t : AnswerNumbers) (s n : ℕ) (out : List ℕ) → 5 ≤ length out → set (set (written (answerAnd t []) out) 3 s) 4 n ≡ written (answerAnd t (s ∷ n ∷ [])) out
-five t s n [] room = absurd (omega (arith, room))
-five t s n (a ∷ []) room = absurd (omega (arith, room))
-five t s n (a ∷ b ∷ []) room = absurd (omega (arith, room))
-five t s n (a ∷ b ∷ c ∷ []) room = absurd (omega (arith, room))
-five t s n (a ∷ b ∷ c ∷ d ∷ []) room = absurd (omega (arith, room))
-five t s n (a ∷ b ∷ c ∷ d ∷ e ∷ out) room = refl
+-- an answer of three numbers, with others stored behind it
+pub stored-behind : (t : AnswerNumbers) (ns out : List ℕ) → length (answerAnd t ns) ≤ length out → sets (written (answerAnd t []) out) 3 ns ≡ written (answerAnd t ns) out
+stored-behind t ns out room =
+    ap (λ (xs : List ℕ). sets xs 3 ns) (sym (sets-written (answerAnd t []) out (omega (arith, room))))
+    ∙ sym (sets-append (answerAnd t []) ns out 0)
+    ∙ sets-written (answerAnd t ns) out room
 
 -- ---- ccsl_run
 
@@ -42,21 +41,21 @@ module _ (t r out : List ℕ) (ws : List ℤ) where
 -- ---- ccsl_read_table
 
 module _ (t out rs ns : List ℕ) where
-  pub read-answer-short : length out < 5 → tableLeft answerShort out rs ns ≡ readInto t out rs ns
+  pub read-answer-short : length out < 6 → tableLeft answerShort out rs ns ≡ readInto t out rs ns
   unfolding readInto
-  read-answer-short a = rw (lt-ltb (length out) 5 a) refl
+  read-answer-short a = rw (lt-ltb (length out) 6 a) refl
 
-  pub read-records-short : 5 ≤ length out → length rs < 384 → tableLeft recordsShort out rs ns ≡ readInto t out rs ns
+  pub read-records-short : 6 ≤ length out → length rs < 384 → tableLeft recordsShort out rs ns ≡ readInto t out rs ns
   unfolding readInto
-  read-records-short a b = rw (le-ltb (length out) 5 a, lt-ltb (length rs) 384 b) refl
+  read-records-short a b = rw (le-ltb (length out) 6 a, lt-ltb (length rs) 384 b) refl
 
-  pub read-names-short : 5 ≤ length out → 384 ≤ length rs → length ns < 64 → tableLeft namesShort out rs ns ≡ readInto t out rs ns
+  pub read-names-short : 6 ≤ length out → 384 ≤ length rs → length ns < 64 → tableLeft namesShort out rs ns ≡ readInto t out rs ns
   unfolding readInto
-  read-names-short a b c = rw (le-ltb (length out) 5 a, le-ltb (length rs) 384 b, lt-ltb (length ns) 64 c) refl
+  read-names-short a b c = rw (le-ltb (length out) 6 a, le-ltb (length rs) 384 b, lt-ltb (length ns) 64 c) refl
 
-  pub read-done : 5 ≤ length out → 384 ≤ length rs → 64 ≤ length ns → readLeft (readTable t) out rs ns ≡ readInto t out rs ns
+  pub read-done : 6 ≤ length out → 384 ≤ length rs → 64 ≤ length ns → readLeft (readTable t) out rs ns ≡ readInto t out rs ns
   unfolding readInto
-  read-done a b c = rw (le-ltb (length out) 5 a, le-ltb (length rs) 384 b, le-ltb (length ns) 64 c) refl
+  read-done a b c = rw (le-ltb (length out) 6 a, le-ltb (length rs) 384 b, le-ltb (length ns) 64 c) refl
 
 -- ---- ccsl_start_words and ccsl_step
 
@@ -83,28 +82,28 @@ module _ (ns out : List ℕ) (ws : List ℤ) (l : Left) where
 
 -- ---- ccsl_same_place
 
-module _ (ns : List ℕ) (clocks : ℕ) (ws vs : List ℤ) (out : List ℕ) where
-  pub place-answer-short : length out < 3 → answerLeft answerShort out ≡ placeInto ns clocks ws vs out
+module _ (ns : List ℕ) (named clocks : ℕ) (ws vs : List ℤ) (out : List ℕ) where
+  pub place-answer-short : length out < 3 → answerLeft answerShort out ≡ placeInto ns named clocks ws vs out
   unfolding placeInto
   place-answer-short a = rw (lt-ltb (length out) 3 a) refl
 
-  pub place-first-short : 3 ≤ length out → length ws < 64 → answerLeft wordsShort out ≡ placeInto ns clocks ws vs out
+  pub place-first-short : 3 ≤ length out → length ws < 64 → answerLeft wordsShort out ≡ placeInto ns named clocks ws vs out
   unfolding placeInto
   place-first-short a w = rw (le-ltb (length out) 3 a, lt-ltb (length ws) 64 w) refl
 
-  pub place-second-short : 3 ≤ length out → 64 ≤ length ws → length vs < 64 → answerLeft wordsShort out ≡ placeInto ns clocks ws vs out
+  pub place-second-short : 3 ≤ length out → 64 ≤ length ws → length vs < 64 → answerLeft wordsShort out ≡ placeInto ns named clocks ws vs out
   unfolding placeInto
   place-second-short a w v = rw (le-ltb (length out) 3 a, le-ltb (length ws) 64 w, lt-ltb (length vs) 64 v) refl
 
-  pub place-ragged : 3 ≤ length out → 64 ≤ length ws → 64 ≤ length vs → (length ns % 6 ≡ 0 → ⊥) → answerLeft recordsRagged out ≡ placeInto ns clocks ws vs out
+  pub place-ragged : 3 ≤ length out → 64 ≤ length ws → 64 ≤ length vs → (length ns % 6 ≡ 0 → ⊥) → answerLeft recordsRagged out ≡ placeInto ns named clocks ws vs out
   unfolding placeInto
   place-ragged a w v r = rw (le-ltb (length out) 3 a, le-ltb (length ws) 64 w, le-ltb (length vs) 64 v, ne-eqb (length ns % 6) 0 r) refl
 
-  pub place-unknown : 3 ≤ length out → 64 ≤ length ws → 64 ≤ length vs → length ns % 6 ≡ 0 → kindsKnown ns ≡ false → answerLeft kindUnknown out ≡ placeInto ns clocks ws vs out
+  pub place-unknown : 3 ≤ length out → 64 ≤ length ws → 64 ≤ length vs → length ns % 6 ≡ 0 → kindsKnown ns ≡ false → answerLeft kindUnknown out ≡ placeInto ns named clocks ws vs out
   unfolding placeInto
   place-unknown a w v r k = rw (le-ltb (length out) 3 a, le-ltb (length ws) 64 w, le-ltb (length vs) 64 v, eq-eqb (length ns % 6) 0 r, k) refl
 
   pub place-done : 3 ≤ length out → 64 ≤ length ws → 64 ≤ length vs → length ns % 6 ≡ 0 → kindsKnown ns ≡ true
-      → placeLeft (samePlaceOf (counting (clockOf clocks)) (recordsOf ns) (configurationOf ws .words) (configurationOf vs .words)) out ≡ placeInto ns clocks ws vs out
+      → placeLeft (samePlaceOf (clocksOf named clocks) (recordsOf ns) (configurationOf ws .words) (configurationOf vs .words)) out ≡ placeInto ns named clocks ws vs out
   unfolding placeInto
   place-done a w v r k = rw (le-ltb (length out) 3 a, le-ltb (length ws) 64 w, le-ltb (length vs) 64 v, eq-eqb (length ns % 6) 0 r, k) refl

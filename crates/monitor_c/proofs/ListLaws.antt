@@ -22,7 +22,7 @@ pub sets-past : {A : Type 0} (vs xs : List A) (i : ℕ) → length xs ≤ i → 
 sets-past [] xs i past = refl
 sets-past (v ∷ vs) xs i past = rw (set-out xs i v past) (sets-past vs xs (suc i) (omega (arith, past)))
 
-sets-append : {A : Type 0} (us vs xs : List A) (i : ℕ) → sets xs i (us ++ vs) ≡ sets (sets xs i us) (i + length us) vs
+pub sets-append : {A : Type 0} (us vs xs : List A) (i : ℕ) → sets xs i (us ++ vs) ≡ sets (sets xs i us) (i + length us) vs
 sets-append [] vs xs i = ap (λ (k : ℕ). sets xs k vs) (omega arith)
 sets-append (u ∷ us) vs xs i = sets-append us vs (set xs i u) (suc i) ∙ ap (λ (k : ℕ). sets (sets (set xs i u) (suc i) us) k vs) (omega arith)
 

@@ -5,15 +5,15 @@ use Prim.Native.Nat.{ℕ, _%_}
 use lib.Dec.{eqb, ltb}
 use lib.IntN.{ℤ}
 use lib.ListN.{length, drop}
-use Rattle.constraint.specs.Lists.{counting}
 use Rattle.constraint.specs.SamePlace as place
 use Rattle.constraint.specs.SamePlace.{samePlaceOf}
 use Rattle.constraint.specs.declared.Configuration.{Configuration}
+use Rattle.grammar.specs.Building.{clocksIn}
 use Rattle.table.specs.Reader as table
 use Rattle.run.specs.Run as run
 use Rattle.judging.specs.Single as single
 use Rattle.lent.specs.Start as start
-use Rattle.monitor_c.specs.Numbers.{clockOf, recordsOf, kindsKnown, recordNumbers, nameNumbers, configurationOf, wordNumbers, ofRun, ofTable, ofStart, ofStep, ofPlace, answerAnd}
+use Rattle.monitor_c.specs.Numbers.{clocksOf, recordsOf, kindsKnown, recordNumbers, nameNumbers, configurationOf, wordNumbers, ofRun, ofTable, ofStart, ofStep, ofPlace, answerAnd}
 use Rattle.monitor_c.specs.declared.AnswerNumbers.{AnswerNumbers}
 
 -- numbers, in the place of the first of a list; the rest is left alone
@@ -82,16 +82,17 @@ pub record TableLeft : Type 0 where
 abbrev pub tableLeft : (status : ℕ) → (answer records names : List ℕ) → TableLeft
 tableLeft s out rs ns = record { status = s; answer = out; records = rs; names = ns }
 
+-- behind the answer: how many constraints, how many clocks, and how many of these are named
 abbrev pub readLeft : table.Told → (answer records names : List ℕ) → TableLeft
 readLeft t out rs ns =
     tableLeft done
-    (written (answerAnd (ofTable (t .said)) (t .table .count ∷ t .table .names .count ∷ [])) out)
+    (written (answerAnd (ofTable (t .said)) (t .table .count ∷ clocksIn (t .table) .count ∷ clocksIn (t .table) .named ∷ [])) out)
     (written (recordNumbers (t .table .records)) rs)
     (written (nameNumbers (t .table .names .spans)) ns)
 
 unfoldable pub readInto : (text : List ℕ) → (answer records names : List ℕ) → TableLeft
 readInto t out rs ns =
-    cond (short out 5) (tableLeft answerShort out rs ns)
+    cond (short out 6) (tableLeft answerShort out rs ns)
     (cond (short rs 384) (tableLeft recordsShort out rs ns)
     (cond (short ns 64) (tableLeft namesShort out rs ns)
     (readLeft (table.readTable t) out rs ns)))
@@ -114,14 +115,14 @@ answeredLeft t c out ws = left done (written (answerAnd t []) out) (written (wor
 abbrev pub startLeft : start.StartTold → List ℕ → List ℤ → Left
 startLeft t out ws = answeredLeft (ofStart (t .said)) (t .configuration) out ws
 
-abbrev pub startInto : (records : List ℕ) → (clocks : ℕ) → (answer : List ℕ) → (words : List ℤ) → Left
-startInto ns clocks out ws = onRecords ns out ws (startLeft (start.startOf (counting (clockOf clocks)) (recordsOf ns)) out ws)
+abbrev pub startInto : (records : List ℕ) → (named clocks : ℕ) → (answer : List ℕ) → (words : List ℤ) → Left
+startInto ns named clocks out ws = onRecords ns out ws (startLeft (start.startOf (clocksOf named clocks) (recordsOf ns)) out ws)
 
 abbrev pub stepLeft : single.StepTold → List ℕ → List ℤ → Left
 stepLeft t out ws = answeredLeft (ofStep (t .said)) (t .configuration) out ws
 
-abbrev pub stepInto : (records : List ℕ) → (clocks ticks : ℕ) → (answer : List ℕ) → (words : List ℤ) → Left
-stepInto ns clocks f out ws = onRecords ns out ws (stepLeft (single.stepOf (counting (clockOf clocks)) (recordsOf ns) (configurationOf ws) f) out ws)
+abbrev pub stepInto : (records : List ℕ) → (named clocks ticks : ℕ) → (answer : List ℕ) → (words : List ℤ) → Left
+stepInto ns named clocks f out ws = onRecords ns out ws (stepLeft (single.stepOf (clocksOf named clocks) (recordsOf ns) (configurationOf ws) f) out ws)
 
 -- ---- ccsl_same_place
 
@@ -135,11 +136,11 @@ answerLeft s out = record { status = s; answer = out }
 abbrev pub placeLeft : place.Answer → List ℕ → AnswerLeft
 placeLeft a out = answerLeft done (written (answerAnd (ofPlace a) []) out)
 
-unfoldable pub placeInto : (records : List ℕ) → (clocks : ℕ) → (first second : List ℤ) → (answer : List ℕ) → AnswerLeft
-placeInto ns clocks ws vs out =
+unfoldable pub placeInto : (records : List ℕ) → (named clocks : ℕ) → (first second : List ℤ) → (answer : List ℕ) → AnswerLeft
+placeInto ns named clocks ws vs out =
     cond (short out 3) (answerLeft answerShort out)
     (cond (short ws 64) (answerLeft wordsShort out)
     (cond (short vs 64) (answerLeft wordsShort out)
     (cond (ragged ns) (answerLeft recordsRagged out)
     (cond (not (kindsKnown ns)) (answerLeft kindUnknown out)
-    (placeLeft (samePlaceOf (counting (clockOf clocks)) (recordsOf ns) (configurationOf ws .words) (configurationOf vs .words)) out)))))
+    (placeLeft (samePlaceOf (clocksOf named clocks) (recordsOf ns) (configurationOf ws .words) (configurationOf vs .words)) out)))))

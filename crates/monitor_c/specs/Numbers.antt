@@ -8,6 +8,7 @@ use lib.IntN.{ℤ}
 use lib.ListN.{getD, take}
 use Rattle.constraint.specs.Meaning.{word}
 use Rattle.constraint.specs.SamePlace as place
+use Rattle.constraint.specs.declared.Clocks.{Clocks}
 use Rattle.constraint.specs.declared.Configuration.{Configuration}
 use Rattle.constraint.specs.declared.Constraint.{Constraint}
 use Rattle.constraint.specs.declared.Definition.the-variants.{Union, Inter, Lub, Glb, Await, StrictlySampled, Sampled, Upto}
@@ -60,6 +61,10 @@ atMost most n = cond (leb n most) n most
 
 abbrev pub clockOf : ℕ → ℕ
 clockOf n = atMost 255 n
+
+-- how many clocks are named, those with the lowest numbers, and how many there are
+abbrev pub clocksOf : (named clocks : ℕ) → Clocks
+clocksOf n m = record { named = clockOf n; count = clockOf m }
 
 -- the six numbers of a record
 pub record RecordRow : Type 0 where

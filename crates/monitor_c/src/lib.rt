@@ -4,7 +4,6 @@ mod lists;
 mod numbers;
 mod records;
 
-use constraint::Clocks;
 use lists::configuration_of;
 use lists::put_answer;
 use lists::put_names;
@@ -14,7 +13,7 @@ use numbers::check_numbers;
 use numbers::place_numbers;
 use numbers::step_numbers;
 use numbers::verdict_numbers;
-use records::clock_of;
+use records::clocks_of;
 use records::kinds_known;
 use records::records_of;
 ghost use mathlib.Core.Path.{_≡_};
@@ -79,7 +78,7 @@ pub extern "C" fn ccsl_read_table(
 ) -> u32
     ensures { λ r. ⌜ tableLeft r (now (answer .exit)) (now (records .exit)) (now (names .exit)) ≡ readInto (now (text .entry)) (now (answer .entry)) (now (records .entry)) (now (names .entry)) ⌝ }
 {
-    if answer.len() < 5 {
+    if answer.len() < 6 {
         return ANSWER_SHORT;
     }
     if records.len() < 384 {
@@ -94,7 +93,8 @@ pub extern "C" fn ccsl_read_table(
     let clocks = table.names;
     put_answer(answer, check_numbers(outcome));
     answer[3] = table.count as u64;
-    answer[4] = clocks.count as u64;
+    answer[4] = (clocks.count + table.implicit) as u64;
+    answer[5] = clocks.count as u64;
     let rows = table.records;
     let spans = clocks.spans;
     put_records(records, rows);
@@ -106,11 +106,12 @@ pub extern "C" fn ccsl_read_table(
 #[no_mangle]
 pub extern "C" fn ccsl_start_words(
     records: &[u64],
+    named: u32,
     clocks: u32,
     words: &mut [i64],
     answer: &mut [u64],
 ) -> u32
-    ensures { λ r. ⌜ left r (now (answer .exit)) (now (words .exit)) ≡ startInto (now (records .entry)) clocks (now (answer .entry)) (now (words .entry)) ⌝ }
+    ensures { λ r. ⌜ left r (now (answer .exit)) (now (words .exit)) ≡ startInto (now (records .entry)) named clocks (now (answer .entry)) (now (words .entry)) ⌝ }
 {
     if answer.len() < 3 {
         return ANSWER_SHORT;
@@ -127,9 +128,7 @@ pub extern "C" fn ccsl_start_words(
     let started = lent::start_on(
         records_of(records),
         records.len() / 6,
-        Clocks {
-            count: clock_of(clocks as u64),
-        },
+        clocks_of(named, clocks),
     );
     let outcome = started.outcome;
     let monitor = started.monitor;
@@ -143,12 +142,13 @@ pub extern "C" fn ccsl_start_words(
 #[no_mangle]
 pub extern "C" fn ccsl_step(
     records: &[u64],
+    named: u32,
     clocks: u32,
     words: &mut [i64],
     ticks: u32,
     answer: &mut [u64],
 ) -> u32
-    ensures { λ r. ⌜ left r (now (answer .exit)) (now (words .exit)) ≡ stepInto (now (records .entry)) clocks ticks (now (answer .entry)) (now (words .entry)) ⌝ }
+    ensures { λ r. ⌜ left r (now (answer .exit)) (now (words .exit)) ≡ stepInto (now (records .entry)) named clocks ticks (now (answer .entry)) (now (words .entry)) ⌝ }
 {
     if answer.len() < 3 {
         return ANSWER_SHORT;
@@ -165,9 +165,7 @@ pub extern "C" fn ccsl_step(
     let stepped = lent::step_on(
         records_of(records),
         records.len() / 6,
-        Clocks {
-            count: clock_of(clocks as u64),
-        },
+        clocks_of(named, clocks),
         configuration_of(words),
         ticks,
     );
@@ -182,12 +180,13 @@ pub extern "C" fn ccsl_step(
 #[no_mangle]
 pub extern "C" fn ccsl_same_place(
     records: &[u64],
+    named: u32,
     clocks: u32,
     first: &[i64],
     second: &[i64],
     answer: &mut [u64],
 ) -> u32
-    ensures { λ r. ⌜ answerLeft r (now (answer .exit)) ≡ placeInto (now (records .entry)) clocks (now (first .entry)) (now (second .entry)) (now (answer .entry)) ⌝ }
+    ensures { λ r. ⌜ answerLeft r (now (answer .exit)) ≡ placeInto (now (records .entry)) named clocks (now (first .entry)) (now (second .entry)) (now (answer .entry)) ⌝ }
 {
     if answer.len() < 3 {
         return ANSWER_SHORT;
@@ -207,9 +206,7 @@ pub extern "C" fn ccsl_same_place(
     let place = lent::same_place_on(
         records_of(records),
         records.len() / 6,
-        Clocks {
-            count: clock_of(clocks as u64),
-        },
+        clocks_of(named, clocks),
         configuration_of(first),
         configuration_of(second),
     );

@@ -1,6 +1,7 @@
 // Records as they are handed in: six numbers each.
 use super::numbers::at_most;
 use super::numbers::kind_of;
+use constraint::Clocks;
 use constraint::Constraint;
 use constraint::Parameter;
 use limit::Place;
@@ -9,7 +10,7 @@ ghost use Prim.Native.Nat.{_+_, _≤_};
 ghost use lib.ListN.{length, replicate};
 ghost use lib.Seq.{sets};
 ghost use Rattle.constraint.specs.Lists.{empty};
-ghost use Rattle.monitor_c.specs.Numbers.{clockOf, kindsKnown, recordOf, recordsOf, rowAt};
+ghost use Rattle.monitor_c.specs.Numbers.{clockOf, clocksOf, kindsKnown, recordOf, recordsOf, rowAt};
 
 // Whether every record's kind is one.
 pub fn kinds_known(numbers: &[u64]) -> bool
@@ -26,10 +27,20 @@ pub fn kinds_known(numbers: &[u64]) -> bool
 }
 
 // The number of a clock, or of clocks; one above 255 counts as 255.
-pub fn clock_of(n: u64) -> u8
+fn clock_of(n: u64) -> u8
     ensures { λ r. ⌜ r ≡ clockOf n ⌝ }
 {
     at_most(255, n) as u8
+}
+
+// How many clocks are named, and how many there are.
+pub fn clocks_of(named: u32, clocks: u32) -> Clocks
+    ensures { λ r. ⌜ r ≡ clocksOf named clocks ⌝ }
+{
+    Clocks {
+        named: clock_of(named as u64),
+        count: clock_of(clocks as u64),
+    }
 }
 
 // The record whose six numbers begin at an offset.

@@ -1,11 +1,12 @@
 -- `ccsl_run` meets its contract: the checks, then what the run told, written number by number. Assumes nothing.
 use mathlib.Core.Path.{ap, _∙_}
-use mathlib.Core.List.{[], _∷_}
-use lib.ListN.{set}
+use mathlib.Core.List.{List, [], _∷_}
+use Prim.Native.Nat.{ℕ}
+use lib.Seq.{sets}
 use Rattle.run.specs.Run.{said}
 use Rattle.monitor_c.specs.Calls.{written, done, left, runLeft}
 use Rattle.monitor_c.specs.Numbers.{ofRun, answerAnd}
-use Rattle.monitor_c.proofs.CallLaws.{five, run-answer-short, run-words-short, run-done}
+use Rattle.monitor_c.proofs.CallLaws.{stored-behind, run-answer-short, run-words-short, run-done}
 use borrow.Author.Needs.{needs}
 use Rattle.monitor_c.proofs.ccsl_run.Statement.{statement}
 use Rattle.monitor_c.proofs.ccsl_run.Tie as tie
@@ -22,10 +23,11 @@ returns-3 c =
     let q = ran .run .result in
     let out = s .answer .now in
     let ws = s .words .now in
-    ap (λ a. left done (set (set a 3 (q .steps .0)) 4 (q .constraints)) (words .last .0)) (put .put-answer .ensures)
-    ∙ ap (λ v. left done (set (set (written (answerAnd v []) out) 3 (q .steps .0)) 4 (q .constraints)) (words .last .0)) (numbers .verdict-numbers .ensures)
-    ∙ ap (λ a. left done a (words .last .0)) (five (ofRun (said (q .verdict))) (q .steps .0) (q .constraints) out (e1 .if1 .left))
-    ∙ ap (λ w. left done (written (answerAnd (ofRun (said (q .verdict))) (q .steps .0 ∷ q .constraints ∷ [])) out) w) (words .ensures)
+    let counts : List ℕ = q .steps .0 ∷ q .constraints ∷ [] in
+    ap (λ a. left done (sets a 3 counts) (words .last .0)) (put .put-answer .ensures)
+    ∙ ap (λ v. left done (sets (written (answerAnd v []) out) 3 counts) (words .last .0)) (numbers .verdict-numbers .ensures)
+    ∙ ap (λ a. left done a (words .last .0)) (stored-behind (ofRun (said (q .verdict))) counts out (e1 .if1 .left))
+    ∙ ap (λ w. left done (written (answerAnd (ofRun (said (q .verdict))) counts) out) w) (words .ensures)
     ∙ ap (λ t. runLeft t out ws) (ran .run .ensures)
     ∙ run-done (s .table .now) (s .recording .now) out ws (e1 .if1 .left) (e2 .if2 .left)
 

@@ -5,11 +5,11 @@ use Prim.Native.Nat.{_/_}
 use borrow.Author.Tests.{not-true, not-false}
 use lib.ListN.{length, replicate}
 use lib.Seq.{sets}
-use Rattle.constraint.specs.Lists.{empty, counting}
+use Rattle.constraint.specs.Lists.{empty}
 use Rattle.constraint.specs.SamePlace.{samePlaceOf}
 use Rattle.lent.specs.Lent.{lent}
 use Rattle.monitor_c.specs.Calls.{written, done, answerLeft, placeLeft}
-use Rattle.monitor_c.specs.Numbers.{clockOf, recordsOf, configurationOf, answerAnd}
+use Rattle.monitor_c.specs.Numbers.{clocksOf, recordsOf, configurationOf, answerAnd}
 use Rattle.monitor_c.proofs.CallLaws.{place-answer-short, place-first-short, place-second-short, place-ragged, place-unknown, place-done}
 use Rattle.monitor_c.proofs.RecordLaws.{place-lent}
 use borrow.Author.Needs.{needs}
@@ -22,7 +22,7 @@ returns-5 c =
     let e4 = known .before in
     let e3 = e4 .before in
     let e2 = e3 .before in
-    place-unknown _ _ _ _ _ (e2 .before .if1 .left) (e2 .if2 .left) (e3 .if3 .left) (e4 .if4 .left) (sym (known .kinds-known .ensures) ∙ not-true _ (c .if5 .taken))
+    place-unknown _ _ _ _ _ _ (e2 .before .if1 .left) (e2 .if2 .left) (e3 .if3 .left) (e4 .if4 .left) (sym (known .kinds-known .ensures) ∙ not-true _ (c .if5 .taken))
 
 returns-6 : tie.Need-returns-6
 returns-6 c =
@@ -47,21 +47,21 @@ returns-6 c =
     ap (λ a. answerLeft done a) (put .put-answer .ensures)
     ∙ ap (λ v. answerLeft done (written (answerAnd v []) out)) (numbers .place-numbers .ensures)
     ∙ ap (λ a. placeLeft a out) (place .same-place-on .ensures .given)
-    ∙ ap (λ rs. placeLeft (samePlaceOf (counting (clocks .clock-of .result)) (lent (length ns / 6) rs) (first .configuration-of .result .words) (second .configuration-of2 .result .words)) out) (records .records-of .ensures)
-    ∙ ap (λ k. placeLeft (samePlaceOf (counting k) (lent (length ns / 6) (sets (replicate 66 empty) 0 (recordsOf ns))) (first .configuration-of .result .words) (second .configuration-of2 .result .words)) out) (clocks .clock-of .ensures)
-    ∙ ap (λ g. placeLeft (samePlaceOf (counting (clockOf (s .clocks))) (lent (length ns / 6) (sets (replicate 66 empty) 0 (recordsOf ns))) (g .words) (second .configuration-of2 .result .words)) out) (first .configuration-of .ensures)
-    ∙ ap (λ g. placeLeft (samePlaceOf (counting (clockOf (s .clocks))) (lent (length ns / 6) (sets (replicate 66 empty) 0 (recordsOf ns))) (configurationOf ws .words) (g .words)) out) (second .configuration-of2 .ensures)
-    ∙ ap (λ a. placeLeft a out) (place-lent (counting (clockOf (s .clocks))) ns (configurationOf ws .words) (configurationOf vs .words))
-    ∙ place-done ns (s .clocks) ws vs out (e1 .if1 .left) (e2 .if2 .left) (e3 .if3 .left) (e4 .if4 .left) (sym (known .kinds-known .ensures) ∙ not-false _ (e5 .if5 .left))
+    ∙ ap (λ rs. placeLeft (samePlaceOf (clocks .clocks-of .result) (lent (length ns / 6) rs) (first .configuration-of .result .words) (second .configuration-of2 .result .words)) out) (records .records-of .ensures)
+    ∙ ap (λ k. placeLeft (samePlaceOf k (lent (length ns / 6) (sets (replicate 66 empty) 0 (recordsOf ns))) (first .configuration-of .result .words) (second .configuration-of2 .result .words)) out) (clocks .clocks-of .ensures)
+    ∙ ap (λ g. placeLeft (samePlaceOf (clocksOf (s .named) (s .clocks)) (lent (length ns / 6) (sets (replicate 66 empty) 0 (recordsOf ns))) (g .words) (second .configuration-of2 .result .words)) out) (first .configuration-of .ensures)
+    ∙ ap (λ g. placeLeft (samePlaceOf (clocksOf (s .named) (s .clocks)) (lent (length ns / 6) (sets (replicate 66 empty) 0 (recordsOf ns))) (configurationOf ws .words) (g .words)) out) (second .configuration-of2 .ensures)
+    ∙ ap (λ a. placeLeft a out) (place-lent (clocksOf (s .named) (s .clocks)) ns (configurationOf ws .words) (configurationOf vs .words))
+    ∙ place-done ns (s .named) (s .clocks) ws vs out (e1 .if1 .left) (e2 .if2 .left) (e3 .if3 .left) (e4 .if4 .left) (sym (known .kinds-known .ensures) ∙ not-false _ (e5 .if5 .left))
 
 pub ccsl-same-place-spec : {M : Type 1} → statement M
 ccsl-same-place-spec =
     tie.close
     (tie.spec
-    (λ c. place-answer-short _ _ _ _ _ (c .if1 .taken))
-    (λ c. place-first-short _ _ _ _ _ (c .before .if1 .left) (c .if2 .taken))
-    (λ c. place-second-short _ _ _ _ _ (c .before .before .if1 .left) (c .before .if2 .left) (c .if3 .taken))
-    (λ c. place-ragged _ _ _ _ _ (c .before .before .before .if1 .left) (c .before .before .if2 .left) (c .before .if3 .left) (c .if4 .taken))
+    (λ c. place-answer-short _ _ _ _ _ _ (c .if1 .taken))
+    (λ c. place-first-short _ _ _ _ _ _ (c .before .if1 .left) (c .if2 .taken))
+    (λ c. place-second-short _ _ _ _ _ _ (c .before .before .if1 .left) (c .before .if2 .left) (c .if3 .taken))
+    (λ c. place-ragged _ _ _ _ _ _ (c .before .before .before .if1 .left) (c .before .before .if2 .left) (c .before .if3 .left) (c .if4 .taken))
     (λ c κs. search needs)
     returns-5
     (λ c κs. search needs)

@@ -5,11 +5,11 @@ use Prim.Native.Nat.{_/_}
 use borrow.Author.Tests.{not-true, not-false}
 use lib.ListN.{length, replicate}
 use lib.Seq.{sets}
-use Rattle.constraint.specs.Lists.{empty, counting}
+use Rattle.constraint.specs.Lists.{empty}
 use Rattle.lent.specs.Lent.{lent}
 use Rattle.lent.specs.Start.{startOf, startSaid}
 use Rattle.monitor_c.specs.Calls.{written, done, left, startLeft}
-use Rattle.monitor_c.specs.Numbers.{clockOf, recordsOf, ofStart, answerAnd}
+use Rattle.monitor_c.specs.Numbers.{clocksOf, recordsOf, ofStart, answerAnd}
 use Rattle.monitor_c.proofs.CallLaws.{answer-short, words-short, records-ragged, kind-unknown, in-shape}
 use Rattle.monitor_c.proofs.RecordLaws.{start-lent}
 use borrow.Author.Needs.{needs}
@@ -44,9 +44,9 @@ returns-5 c =
     ∙ ap (λ v. left done (written (answerAnd v []) out) (words .last .0)) (numbers .check-numbers .ensures .1)
     ∙ ap (λ w. left done (written (answerAnd (ofStart (startSaid (q .outcome))) []) out) w) (words .ensures)
     ∙ ap (λ t. startLeft t out ws) (started .start-on .ensures)
-    ∙ ap (λ rs. startLeft (startOf (counting (clocks .clock-of .result)) (lent (length ns / 6) rs)) out ws) (records .records-of .ensures)
-    ∙ ap (λ k. startLeft (startOf (counting k) (lent (length ns / 6) (sets (replicate 66 empty) 0 (recordsOf ns)))) out ws) (clocks .clock-of .ensures)
-    ∙ ap (λ t. startLeft t out ws) (start-lent (counting (clockOf (s .clocks))) ns)
+    ∙ ap (λ rs. startLeft (startOf (clocks .clocks-of .result) (lent (length ns / 6) rs)) out ws) (records .records-of .ensures)
+    ∙ ap (λ k. startLeft (startOf k (lent (length ns / 6) (sets (replicate 66 empty) 0 (recordsOf ns)))) out ws) (clocks .clocks-of .ensures)
+    ∙ ap (λ t. startLeft t out ws) (start-lent (clocksOf (s .named) (s .clocks)) ns)
     ∙ in-shape ns out ws _ (e1 .if1 .left) (e2 .if2 .left) (e3 .if3 .left) (sym (known .kinds-known .ensures) ∙ not-false _ (e4 .if4 .left))
 
 pub ccsl-start-words-spec : {M : Type 1} → statement M

@@ -5,11 +5,11 @@ use Prim.Native.Nat.{_/_}
 use borrow.Author.Tests.{not-true, not-false}
 use lib.ListN.{length, replicate}
 use lib.Seq.{sets}
-use Rattle.constraint.specs.Lists.{empty, counting}
+use Rattle.constraint.specs.Lists.{empty}
 use Rattle.lent.specs.Lent.{lent}
 use Rattle.judging.specs.Single.{stepOf, stepSaid}
 use Rattle.monitor_c.specs.Calls.{written, done, left, stepLeft}
-use Rattle.monitor_c.specs.Numbers.{clockOf, recordsOf, configurationOf, ofStep, answerAnd}
+use Rattle.monitor_c.specs.Numbers.{clocksOf, recordsOf, configurationOf, ofStep, answerAnd}
 use Rattle.monitor_c.proofs.CallLaws.{answer-short, words-short, records-ragged, kind-unknown, in-shape}
 use Rattle.monitor_c.proofs.RecordLaws.{step-lent}
 use borrow.Author.Needs.{needs}
@@ -45,10 +45,10 @@ returns-5 c =
     ∙ ap (λ v. left done (written (answerAnd v []) out) (words .last .0)) (numbers .step-numbers .ensures)
     ∙ ap (λ w. left done (written (answerAnd (ofStep (stepSaid (q .answer))) []) out) w) (words .ensures)
     ∙ ap (λ t. stepLeft t out ws) (stepped .step-on .ensures)
-    ∙ ap (λ rs. stepLeft (stepOf (counting (clocks .clock-of .result)) (lent (length ns / 6) rs) (configuration .configuration-of .result) (s .ticks)) out ws) (records .records-of .ensures)
-    ∙ ap (λ k. stepLeft (stepOf (counting k) (lent (length ns / 6) (sets (replicate 66 empty) 0 (recordsOf ns))) (configuration .configuration-of .result) (s .ticks)) out ws) (clocks .clock-of .ensures)
-    ∙ ap (λ g. stepLeft (stepOf (counting (clockOf (s .clocks))) (lent (length ns / 6) (sets (replicate 66 empty) 0 (recordsOf ns))) g (s .ticks)) out ws) (configuration .configuration-of .ensures)
-    ∙ ap (λ t. stepLeft t out ws) (step-lent (counting (clockOf (s .clocks))) ns (configurationOf ws) (s .ticks))
+    ∙ ap (λ rs. stepLeft (stepOf (clocks .clocks-of .result) (lent (length ns / 6) rs) (configuration .configuration-of .result) (s .ticks)) out ws) (records .records-of .ensures)
+    ∙ ap (λ k. stepLeft (stepOf k (lent (length ns / 6) (sets (replicate 66 empty) 0 (recordsOf ns))) (configuration .configuration-of .result) (s .ticks)) out ws) (clocks .clocks-of .ensures)
+    ∙ ap (λ g. stepLeft (stepOf (clocksOf (s .named) (s .clocks)) (lent (length ns / 6) (sets (replicate 66 empty) 0 (recordsOf ns))) g (s .ticks)) out ws) (configuration .configuration-of .ensures)
+    ∙ ap (λ t. stepLeft t out ws) (step-lent (clocksOf (s .named) (s .clocks)) ns (configurationOf ws) (s .ticks))
     ∙ in-shape ns out ws _ (e1 .if1 .left) (e2 .if2 .left) (e3 .if3 .left) (sym (known .kinds-known .ensures) ∙ not-false _ (e4 .if4 .left))
 
 pub ccsl-step-spec : {M : Type 1} → statement M
