@@ -27,3 +27,7 @@ module _ (n : ℕ) (b : Builder) (s : Inner) (i : ℕ) where
   pub most-definitions : (s .count ≤ i) ⊎ (length (s .records) ≤ i) → length (definitions s) ≤ i
   most-definitions (inl h) = omega (arith, length-take (s .count) (s .records))
   most-definitions (inr h) = omega (arith, length-take (s .count) (s .records))
+
+pub none-added : (n : ℕ) (b : Builder) (s : Inner) → s .count ≡ 0 → withConstraints n b (definitions s) ≡ b
+unfolding withConstraints
+none-added n b s e = rw e

@@ -136,6 +136,9 @@ pub fn with_line(
     let mut more = builder;
     more.names = names;
     more.implicit = inner.clocks;
+    if inner.count == 0 {
+        return with_constraint(place, more, constraint);
+    }
     with_constraint(place, with_definitions(place, more, inner), constraint)
 }
 

@@ -7,6 +7,7 @@ use super::KindRead;
 use super::Names;
 use super::OperandRead;
 use super::Token;
+use super::WordRead;
 use super::building::provisional;
 use super::building::with_implicit;
 use super::naming::find_name;
@@ -23,6 +24,7 @@ use text::Number;
 use text::Span;
 ghost use mathlib.Core.Path.{_≡_};
 ghost use mathlib.Core.Bool.{false};
+ghost use Prim.Native.Nat.{ℕ};
 ghost use Rattle.grammar.specs.Answers as a;
 ghost use Rattle.grammar.specs.Grammar as g;
 
@@ -43,11 +45,10 @@ fn clock_at(line: &[u8], names: Names, word: Span) -> u8
     clock_of(find_name(line, names, text::part(line, word)))
 }
 
-// An operand that is the name of a clock.
-fn name(line: &[u8], names: Names, inner: Inner, at: usize) -> OperandRead
-    ensures { λ r. ⌜ a.operandRead (now (line .entry)) r ≡ g.name (now (line .entry)) names inner (g.lineWords (now (line .entry)) at) ⌝ }
+// An operand that is the name of a clock: by the word that stands there.
+fn name(line: &[u8], names: Names, inner: Inner, word: WordRead) -> OperandRead
+    ensures { λ r. ⌜ ((at : ℕ) → a.FirstWord (now (line .entry)) at word → a.operandRead (now (line .entry)) r ≡ g.name (now (line .entry)) names inner (g.lineWords (now (line .entry)) at)) ⌝ }
 {
-    let word = word_at(line, at);
     if !is(Token::Name, word) {
         return no_operand(inner);
     }
@@ -290,12 +291,12 @@ fn enclosed(line: &[u8], form: FormRead) -> OperandRead
 fn operand(line: &[u8], names: Names, inner: Inner, at: usize, level: usize) -> OperandRead
     ensures { λ r. ⌜ a.operandRead (now (line .entry)) r ≡ g.operand (now (line .entry)) names level inner (g.lineWords (now (line .entry)) at) ⌝ }
 {
-    if level == 0 {
-        return name(line, names, inner, at);
-    }
     let word = word_at(line, at);
+    if level == 0 {
+        return name(line, names, inner, word);
+    }
     if !is(Token::Open, word) {
-        return name(line, names, inner, at);
+        return name(line, names, inner, word);
     }
     enclosed(
         line,

@@ -59,7 +59,7 @@ abbrev expression-calls : ℕ → expression-lts.Claims
 expression-calls m = (word-at-reads.Asked, word-at-reads.Learnt, is-reads.Asked, is-reads.Learnt, no-form-reads.Asked, no-form-reads.Learnt, operand-below m, operand.Post, part-reads.Asked, part-reads.Learnt, await-number-reads.Asked, await-number-reads.Learnt, sides-reads.Asked, sides-reads.Learnt, kind-at-reads.Asked, kind-at-reads.Learnt, is-kind-reads.Asked, is-kind-reads.Learnt)
 
 abbrev operand-calls : ℕ → operand-lts.Claims
-operand-calls m = (name-reads.Asked, name-reads.Learnt, word-at-reads.Asked, word-at-reads.Learnt, is-reads.Asked, is-reads.Learnt, expression-below m, expression.Post, enclosed-reads.Asked, enclosed-reads.Learnt)
+operand-calls m = (word-at-reads.Asked, word-at-reads.Learnt, name-reads.Asked, name-reads.Learnt, is-reads.Asked, is-reads.Learnt, expression-below m, expression.Post, enclosed-reads.Asked, enclosed-reads.Learnt)
 
 -- ---- an expression
 module _ (m : ℕ) where
@@ -201,29 +201,31 @@ module _ (m : ℕ) where
 module _ (m : ℕ) where
   flat : operand-lts.Need-returns (operand-calls m) (operand-at m) operand.Post
   flat c =
-      let s = c .before .before .before .args in
+      let w = c .before .before in
+      let s = w .before .before .args in
       let t = now (s .line) in
-      c .name .ensures ∙ sym (operand-flat t (s .names) (s .level) (s .inner) (lineWords t (s .at)) (c .before .if1 .taken))
+      c .name .ensures (s .at) (w .word-at .ensures) ∙ sym (operand-flat t (s .names) (s .level) (s .inner) (lineWords t (s .at)) (c .before .if1 .taken))
 
   named : operand-lts.Need-returns-2 (operand-calls m) (operand-at m) operand.Post
   named c =
       let i = c .before .before in
-      let w = i .before .word-at in
-      let s = i .before .before .before .before .args in
+      let w = i .before .before in
+      let s = w .before .before .args in
       let t = now (s .line) in
-      c .name2 .ensures ∙ sym (operand-name t (s .names) (s .level) (s .inner) (lineWords t (s .at)) (word-token t _ (w .result) (w .ensures) Open false (sym (i .is .ensures) ∙ not-true _ (c .before .if2 .taken))))
+      c .name2 .ensures (s .at) (w .word-at .ensures)
+      ∙ sym (operand-name t (s .names) (s .level) (s .inner) (lineWords t (s .at)) (word-token t _ (w .word-at .result) (w .word-at .ensures) Open false (sym (i .is .ensures) ∙ not-true _ (c .before .if2 .taken))))
 
   enclosed : operand-lts.Need-returns-3 (operand-calls m) (operand-at m) operand.Post
   enclosed c =
       let x = c .before in
       let i = x .before .before in
-      let w = i .before .word-at in
-      let e = i .before .before in
-      let s = e .before .before .args in
+      let e = i .before in
+      let w = e .before in
+      let s = w .before .before .args in
       let t = now (s .line) in
       c .enclosed .ensures
-      ∙ rw (x .expression .ensures, w .ensures .next .after)
-      (sym (operand-inner t (s .names) (s .level) (s .inner) (lineWords t (s .at)) (e .if1 .left) (word-token t _ (w .result) (w .ensures) Open true (sym (i .is .ensures) ∙ not-false _ (x .before .if2 .left)))))
+      ∙ rw (x .expression .ensures, w .word-at .ensures .next .after)
+      (sym (operand-inner t (s .names) (s .level) (s .inner) (lineWords t (s .at)) (e .if1 .left) (word-token t _ (w .word-at .result) (w .word-at .ensures) Open true (sym (i .is .ensures) ∙ not-false _ (x .before .if2 .left)))))
 
 pub +expression+operand-spec : {M : Type 1} → statement M
 +expression+operand-spec =
@@ -256,8 +258,8 @@ pub +expression+operand-spec : {M : Type 1} → statement M
     (returns-7 m))
     (λ m. operand-lts.spec (operand-calls m) (operand-at m) operand.Post
     (λ c κs. search needs)
-    (flat m)
     (λ c κs. search needs)
+    (flat m)
     (λ c κs. search needs)
     (λ c κs. search needs)
     (named m)

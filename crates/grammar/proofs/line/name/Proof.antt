@@ -11,27 +11,24 @@ use Rattle.grammar.proofs.line.name.Statement.{statement}
 use Rattle.grammar.proofs.line.name.Tie as tie
 
 returns : tie.Need-returns
-returns c =
+returns c at f =
     let i = c .before .before in
-    let w = i .before .word-at in
-    let s = i .before .before .before .args in
+    let s = i .before .before .args in
     let t = now (s .line) in
-    operand-not t _ (c .no-operand .ensures) ∙ sym (name-none t (lineWords t (s .at)) (s .names) (s .inner) (word-token t (s .at) (w .result) (w .ensures) Name false (sym (i .is .ensures) ∙ not-true _ (c .before .if1 .taken))))
+    operand-not t _ (c .no-operand .ensures) ∙ sym (name-none t (lineWords t at) (s .names) (s .inner) (word-token t at (s .word) f Name false (sym (i .is .ensures) ∙ not-true _ (c .before .if1 .taken))))
 
 returns-2 : tie.Need-returns-2
-returns-2 c =
+returns-2 c at f =
     let e = c .before .before in
     let i = e .before in
-    let w = i .before .word-at in
-    let s = i .before .before .before .args in
+    let s = i .before .before .args in
     let t = now (s .line) in
-    operand-is t _ refl ∙ name-read t (s .at) (w .result) (w .ensures) (s .names) (s .inner) _ (sym (i .is .ensures) ∙ not-false _ (e .if1 .left)) (c .clock-at .ensures)
+    operand-is t _ refl ∙ name-read t at (s .word) f (s .names) (s .inner) _ (sym (i .is .ensures) ∙ not-false _ (e .if1 .left)) (c .clock-at .ensures)
 
 pub name-spec : {M : Type 1} → statement M
 name-spec =
     tie.close
     (tie.spec
-    (λ c κs. search needs)
     (λ c κs. search needs)
     (λ c κs. search needs)
     returns
