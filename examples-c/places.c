@@ -16,7 +16,8 @@ enum { FILL = 1 << 0, SEAL = 1 << 1, DONE = 1 << 2 };
 /* The table as the library reads it. */
 static uint64_t records[CCSL_RECORDS * CCSL_RECORD];
 static uint64_t names[CCSL_CLOCKS * 2];
-static uint64_t constraints, clocks;
+static uint64_t constraints;
+static uint32_t clocks, named;
 
 static void check(uint32_t status)
 {
@@ -26,10 +27,10 @@ static void check(uint32_t status)
     }
 }
 
-/* Prints the names of the clocks in a tick set. */
+/* Prints the names of the clocks in a tick set, which holds named clocks alone. */
 static void print_clocks(uint32_t set)
 {
-    for (uint64_t k = 0; k < clocks; k++)
+    for (uint32_t k = 0; k < named; k++)
         if (set >> k & 1)
             printf(" %.*s", (int)(names[2 * k + 1] - names[2 * k]), text + names[2 * k]);
 }
@@ -44,8 +45,9 @@ static void read_table(void)
         exit(1);
     }
     constraints = answer[3];
-    clocks = answer[4];
-    printf("%" PRIu64 " constraints on %" PRIu64 " clocks:", constraints, clocks);
+    clocks = (uint32_t)answer[4];
+    named = (uint32_t)answer[5];
+    printf("%" PRIu64 " constraints on %" PRIu32 " clocks:", constraints, clocks);
     print_clocks(UINT32_MAX);
     printf("\n");
 }
@@ -62,14 +64,14 @@ static void print_words(const int64_t *words)
 static void start(int64_t *words)
 {
     uint64_t answer[CCSL_START_ANSWER];
-    check(ccsl_start_words(records, constraints * CCSL_RECORD, (uint32_t)clocks, words, CCSL_WORDS, answer, CCSL_START_ANSWER));
+    check(ccsl_start_words(records, constraints * CCSL_RECORD, named, clocks, words, CCSL_WORDS, answer, CCSL_START_ANSWER));
 }
 
 /* Moves a monitor one step forward and prints how the step was judged, and where the monitor then stands. */
 static void step(int64_t *words, uint32_t set)
 {
     uint64_t answer[CCSL_STEP_ANSWER];
-    check(ccsl_step(records, constraints * CCSL_RECORD, (uint32_t)clocks, words, CCSL_WORDS, set, answer, CCSL_STEP_ANSWER));
+    check(ccsl_step(records, constraints * CCSL_RECORD, named, clocks, words, CCSL_WORDS, set, answer, CCSL_STEP_ANSWER));
     printf(" ");
     print_clocks(set);
     if (answer[0] == CCSL_ACCEPTED)
@@ -85,7 +87,7 @@ static void step(int64_t *words, uint32_t set)
 static void compare(const int64_t *one, const int64_t *other)
 {
     uint64_t answer[CCSL_PLACE_ANSWER];
-    check(ccsl_same_place(records, constraints * CCSL_RECORD, (uint32_t)clocks, one, CCSL_WORDS, other, CCSL_WORDS, answer,
+    check(ccsl_same_place(records, constraints * CCSL_RECORD, named, clocks, one, CCSL_WORDS, other, CCSL_WORDS, answer,
                           CCSL_PLACE_ANSWER));
     if (answer[0] == CCSL_ACCEPTED)
         printf("The same place: no constraint tells the two machines apart, whatever comes.\n");

@@ -45,9 +45,9 @@ enum {
     CCSL_WORDS = 64,      /* words of a configuration: one a record, in table order, the rest 0 */
     CCSL_RECORDS = 64,    /* records of a table */
     CCSL_RECORD = 6,      /* numbers of a record: kind, c, a, b, n, line */
-    CCSL_CLOCKS = 32,     /* clocks of a table */
+    CCSL_CLOCKS = 32,     /* clocks of a table, named and implicit */
     CCSL_RUN_ANSWER = 5,  /* numbers of the answers */
-    CCSL_READ_ANSWER = 5,
+    CCSL_READ_ANSWER = 6,
     CCSL_START_ANSWER = 3,
     CCSL_STEP_ANSWER = 3,
     CCSL_PLACE_ANSWER = 3
@@ -73,6 +73,11 @@ enum {
     CCSL_UPTO = 13              /* c clockDef a upto b */
 };
 
+/* Clocks have numbers from 0: first come the named ones, then the implicit ones. An implicit clock stands for an expression in parentheses,
+ * as in `(a lub b) precedes c`, and a record defines it. It is not recorded, and a tick set holds named clocks alone: each step works out
+ * the ticks of implicit clocks, in the order of the records, so that their definitions hold. The calls on records are told how many clocks are
+ * named, and how many there are, named and implicit together: `named` and `clocks`. */
+
 /* Judges a recording by a table.
  * answer, 5 numbers: CCSL_ACCEPTED, 0, 0; or CCSL_VIOLATED, the table line, the recorded time; or CCSL_REFUSED, the limit's number, the
  * place; then the number of accepted steps and the number of constraints, both 0 where the table was refused.
@@ -84,11 +89,13 @@ uint32_t ccsl_run(const uint8_t *table, size_t table_len,
                   int64_t *words, size_t words_len);
 
 /* Reads a table.
- * answer, 5 numbers: CCSL_ACCEPTED, 0, 0; or CCSL_REFUSED, the limit's number, the line, from 1, or 0 where the text is too long; then the
- * number of constraints and the number of clocks, both 0 where the table was refused.
- * records, 64 records of 6 numbers in table order; those behind the last are empty, with six zeros.
- * names, 32 pairs in the order of the clocks' numbers: the offset in the text at which the clock's name starts where it first stands, and
- * the offset behind its last byte; zeros behind the last.
+ * answer, 6 numbers: CCSL_ACCEPTED, 0, 0; or CCSL_REFUSED, the limit's number, the line, from 1, or 0 where the text is too long; then the
+ * number of constraints, the number of clocks, named and implicit together, and the number of named clocks, each 0 where the table was
+ * refused. Of a line's parentheses speak 19, over sixteen stand open, and 20, one has no partner.
+ * records, 64 records of 6 numbers in table order: of a line, first those of its implicit clocks, inner before outer, left before right, then
+ * its own; those behind the last are empty, with six zeros.
+ * names, 32 pairs in the order of the named clocks' numbers: the offset in the text at which the clock's name starts where it first stands,
+ * and the offset behind its last byte; zeros behind the last.
  * CCSL_ANSWER_SHORT, CCSL_RECORDS_SHORT, CCSL_NAMES_SHORT. */
 uint32_t ccsl_read_table(const uint8_t *text, size_t text_len,
                          uint64_t *answer, size_t answer_len,
@@ -97,34 +104,37 @@ uint32_t ccsl_read_table(const uint8_t *text, size_t text_len,
 
 /* A monitor is its configuration alone, 64 words, which the caller keeps. ccsl_start_words gives it the start words of records, and ccsl_step
  * moves it forward where it stands (examples-c/places.c has two of them). The records are lent to each call: those that ccsl_read_table
- * wrote, with the clock count that it answered, or any made by hand. */
+ * wrote, with the two counts that it answered, or any made by hand. */
 
 /* Puts a monitor at the start of records. records_len counts numbers, six a record.
- * answer, 3 numbers: CCSL_ACCEPTED, 0, 0; or CCSL_REFUSED, 59, the place, exactly where every step on these records is refused so.
+ * answer, 3 numbers: CCSL_ACCEPTED, 0, 0; or CCSL_REFUSED, 59, the place, exactly where every step on these records is refused so: 0 where
+ * `clocks` is over 32 or `named` above `clocks`, else the first record that is bad, also one that uses, as a or b, an implicit clock which
+ * no record above it defines.
  * words, 64 words: the start word of each record, the rest 0; all 0 where the records are refused.
  * CCSL_ANSWER_SHORT, CCSL_WORDS_SHORT, CCSL_RECORDS_RAGGED, CCSL_KIND_UNKNOWN. More than 64 records, all of a known kind, are refused with
  * 59, at the first that is bad, else at 65. */
 uint32_t ccsl_start_words(const uint64_t *records, size_t records_len,
-                          uint32_t clocks,
+                          uint32_t named, uint32_t clocks,
                           int64_t *words, size_t words_len,
                           uint64_t *answer, size_t answer_len);
 
 /* One step of a monitor: `words` are moved where they stand if the step is accepted, and left alone else. Clock k ticks where bit k of
- * `ticks` is 1.
- * answer, 3 numbers: CCSL_ACCEPTED, 0, 0; or CCSL_VIOLATED, the record from 1, 0; or CCSL_REFUSED, the limit's number, the place.
+ * `ticks` is 1. Only named clocks can: a bit from `named` on is refused with 61, that of an implicit clock too.
+ * answer, 3 numbers: CCSL_ACCEPTED, 0, 0; or CCSL_VIOLATED, the record from 1, 0, which never defines an implicit clock; or CCSL_REFUSED,
+ * the limit's number, the place.
  * CCSL_ANSWER_SHORT, CCSL_WORDS_SHORT, CCSL_RECORDS_RAGGED, CCSL_KIND_UNKNOWN, as in ccsl_start_words. */
 uint32_t ccsl_step(const uint64_t *records, size_t records_len,
-                   uint32_t clocks,
+                   uint32_t named, uint32_t clocks,
                    int64_t *words, size_t words_len,
                    uint32_t ticks,
                    uint64_t *answer, size_t answer_len);
 
-/* Whether two configurations stand at the same place: no record, judged by itself, tells them apart by any continuation. All of the first
- * configuration is tested before the second.
+/* Whether two configurations stand at the same place: no record, judged by itself, tells them apart by any continuation, in which implicit
+ * clocks tick as freely as named ones. All of the first configuration is tested before the second.
  * answer, 3 numbers: CCSL_ACCEPTED, 0, 0, the same; or CCSL_VIOLATED, 0, 0, different; or CCSL_REFUSED, the limit's number, the place.
  * CCSL_ANSWER_SHORT, CCSL_WORDS_SHORT, CCSL_RECORDS_RAGGED, CCSL_KIND_UNKNOWN, as in ccsl_start_words. */
 uint32_t ccsl_same_place(const uint64_t *records, size_t records_len,
-                         uint32_t clocks,
+                         uint32_t named, uint32_t clocks,
                          const int64_t *first, size_t first_len,
                          const int64_t *second, size_t second_len,
                          uint64_t *answer, size_t answer_len);

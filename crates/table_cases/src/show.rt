@@ -10,6 +10,8 @@ use grammar::Table;
 use limit::Check;
 use limit::Refusal;
 use text::Span;
+ghost use Prim.Native.Nat.{_≤_};
+ghost use Rattle.grammar.specs.Building.{clocksIn};
 
 // The line of a refusal.
 fn refused(refusal: Refusal) {
@@ -82,13 +84,28 @@ fn constraints(records: [Constraint; 64], count: usize) {
     }
 }
 
+// The line of a table's numbers: of clocks, of those that are named where some are not, and of constraints.
+fn head(table: Table)
+    requires { ⌜ clocksIn table .count ≤ 32 ⌝ }
+{
+    let named = table.names.count;
+    say_field(b"read, ", (named + table.implicit) as u64);
+    say(b" clocks");
+    if 0 < table.implicit {
+        say_field(b", ", named as u64);
+        say(b" named");
+    }
+    say_field(b", ", table.count as u64);
+    say(b" constraints\n");
+}
+
 // The lines of a table that was read.
-fn read(text: &[u8], table: Table) {
+fn read(text: &[u8], table: Table)
+    requires { ⌜ clocksIn table .count ≤ 32 ⌝ }
+{
     let names = table.names;
     let records = table.records;
-    say_field(b"read, ", names.count as u64);
-    say_field(b" clocks, ", table.count as u64);
-    say(b" constraints\n");
+    head(table);
     clocks(text, names);
     constraints(records, table.count);
 }

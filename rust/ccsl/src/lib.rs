@@ -19,6 +19,16 @@
 //! assert_eq!(monitor.step(0b01), ccsl::StepAnswer::Accepted);
 //! assert_eq!(monitor.words()[0], 1);
 //! ```
+//!
+//! An expression in parentheses is an implicit clock, which no tick set holds:
+//!
+//! ```
+//! let table = ccsl::read_table(b"(a lub b) precedes c").unwrap();
+//! assert_eq!(table.counts(), ccsl::Clocks { named: 3, count: 4 });
+//! let mut monitor = ccsl::Monitor::of_table(&table).unwrap();
+//! assert_eq!(monitor.step(0b011), ccsl::StepAnswer::Accepted);
+//! assert_eq!(monitor.words()[..2], [0, 1]);
+//! ```
 
 pub mod raw;
 
@@ -96,7 +106,25 @@ pub struct Record {
     pub line: u64,
 }
 
-/// A clock of a table.
+/// How many clocks there are, and how many of them, those with the lowest numbers, are named. The
+/// others are implicit: a step works out their ticks, and a tick set holds named clocks alone.
+#[derive(Clone, Copy, Debug, PartialEq, Eq, Hash)]
+pub struct Clocks {
+    pub named: u32,
+    pub count: u32,
+}
+
+impl Clocks {
+    /// This many clocks, all of them named.
+    pub const fn all_named(count: u32) -> Clocks {
+        Clocks {
+            named: count,
+            count,
+        }
+    }
+}
+
+/// A named clock of a table.
 #[derive(Clone, Debug, PartialEq, Eq)]
 pub struct Clock {
     pub name: String,
@@ -107,9 +135,23 @@ pub struct Clock {
 /// A table that was read.
 #[derive(Clone, Debug, PartialEq, Eq)]
 pub struct Table {
+    /// In table order: of a line, the definitions of its implicit clocks, then its own constraint.
     pub records: Vec<Record>,
-    /// In the order of the clocks' numbers.
+    /// The named clocks, in the order of their numbers.
     pub clocks: Vec<Clock>,
+    /// The number of implicit clocks, which have the numbers straight behind those of the named.
+    pub implicit: u32,
+}
+
+impl Table {
+    /// The clocks as the calls on records take them.
+    pub fn counts(&self) -> Clocks {
+        let named = self.clocks.len() as u32;
+        Clocks {
+            named,
+            count: named.saturating_add(self.implicit),
+        }
+    }
 }
 
 /// A limit that the input breaks: its number, and the place at which it does.
@@ -178,7 +220,7 @@ pub fn read_table(text: &[u8]) -> Result<Table, Refusal> {
     let mut records = [0; raw::RECORDS * raw::RECORD];
     let mut names = [0; raw::CLOCKS * 2];
     done(raw::read_table(text, &mut answer, &mut records, &mut names));
-    let [outcome, number, place, constraints, clocks] = answer;
+    let [outcome, number, place, constraints, clocks, named] = answer;
     if outcome != raw::ACCEPTED {
         return Err(Refusal { number, place });
     }
@@ -190,9 +232,10 @@ pub fn read_table(text: &[u8]) -> Result<Table, Refusal> {
             .collect(),
         clocks: names
             .chunks_exact(2)
-            .take(clocks as usize)
+            .take(named as usize)
             .map(|ends| clock(text, ends))
             .collect(),
+        implicit: (clocks - named) as u32,
     })
 }
 
@@ -221,17 +264,17 @@ pub fn run(table: &[u8], recording: &[u8]) -> Report {
     }
 }
 
-/// The start words of records on a number of clocks: where single steps begin. They are refused,
-/// with 59, exactly where a step on these records is.
-pub fn start_words(records: &[Record], clocks: u32) -> Result<Configuration, Refusal> {
+/// The start words of records on these clocks: where single steps begin. They are refused, with 59,
+/// exactly where a step on these records is.
+pub fn start_words(records: &[Record], clocks: Clocks) -> Result<Configuration, Refusal> {
     Monitor::of_records(records, clocks).map(|monitor| monitor.words)
 }
 
-/// One step: clock k ticks where bit k of `ticks` is 1. Moves the configuration where it stands if
-/// the step is accepted, and leaves it alone else.
+/// One step: the named clock k ticks where bit k of `ticks` is 1. Moves the configuration where it
+/// stands if the step is accepted, and leaves it alone else.
 pub fn step(
     records: &[Record],
-    clocks: u32,
+    clocks: Clocks,
     configuration: &mut Configuration,
     ticks: u32,
 ) -> StepAnswer {
@@ -243,18 +286,18 @@ pub fn step(
 #[derive(Clone, Debug, PartialEq, Eq)]
 pub struct Monitor {
     records: Vec<u64>,
-    clocks: u32,
+    clocks: Clocks,
     words: Configuration,
 }
 
 impl Monitor {
     /// A monitor of a table, at its start words. A table that was read is never refused.
     pub fn of_table(table: &Table) -> Result<Monitor, Refusal> {
-        Monitor::of_records(&table.records, table.clocks.len() as u32)
+        Monitor::of_records(&table.records, table.counts())
     }
 
-    /// A monitor of records on a number of clocks, at their start words.
-    pub fn of_records(records: &[Record], clocks: u32) -> Result<Monitor, Refusal> {
+    /// A monitor of records on these clocks, at their start words.
+    pub fn of_records(records: &[Record], clocks: Clocks) -> Result<Monitor, Refusal> {
         let mut monitor = Monitor {
             records: numbers(records),
             clocks,
@@ -263,7 +306,8 @@ impl Monitor {
         let mut answer = [0; raw::START_ANSWER];
         done(raw::start_words(
             &monitor.records,
-            clocks,
+            clocks.named,
+            clocks.count,
             &mut monitor.words,
             &mut answer,
         ));
@@ -273,8 +317,8 @@ impl Monitor {
         }
     }
 
-    /// One step: clock k ticks where bit k of `ticks` is 1. After a violation or a refusal the
-    /// monitor stands where it stood.
+    /// One step: the named clock k ticks where bit k of `ticks` is 1. After a violation or a refusal
+    /// the monitor stands where it stood.
     pub fn step(&mut self, ticks: u32) -> StepAnswer {
         step_by_numbers(&self.records, self.clocks, &mut self.words, ticks)
     }
@@ -289,14 +333,15 @@ impl Monitor {
 /// apart by any continuation.
 pub fn same_place(
     records: &[Record],
-    clocks: u32,
+    clocks: Clocks,
     first: &Configuration,
     second: &Configuration,
 ) -> SamePlace {
     let mut answer = [0; raw::PLACE_ANSWER];
     done(raw::same_place(
         &numbers(records),
-        clocks,
+        clocks.named,
+        clocks.count,
         first,
         second,
         &mut answer,
@@ -311,12 +356,19 @@ pub fn same_place(
 /// One step on records that are numbers already.
 fn step_by_numbers(
     records: &[u64],
-    clocks: u32,
+    clocks: Clocks,
     words: &mut Configuration,
     ticks: u32,
 ) -> StepAnswer {
     let mut answer = [0; raw::STEP_ANSWER];
-    done(raw::step(records, clocks, words, ticks, &mut answer));
+    done(raw::step(
+        records,
+        clocks.named,
+        clocks.count,
+        words,
+        ticks,
+        &mut answer,
+    ));
     match answer {
         [raw::ACCEPTED, _, _] => StepAnswer::Accepted,
         [raw::VIOLATED, record, _] => StepAnswer::Violated(record),

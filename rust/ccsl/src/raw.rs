@@ -30,6 +30,7 @@ mod header {
         pub fn ccsl_start_words(
             records: *const u64,
             records_len: usize,
+            named: u32,
             clocks: u32,
             words: *mut i64,
             words_len: usize,
@@ -40,6 +41,7 @@ mod header {
         pub fn ccsl_step(
             records: *const u64,
             records_len: usize,
+            named: u32,
             clocks: u32,
             words: *mut i64,
             words_len: usize,
@@ -51,6 +53,7 @@ mod header {
         pub fn ccsl_same_place(
             records: *const u64,
             records_len: usize,
+            named: u32,
             clocks: u32,
             first: *const i64,
             first_len: usize,
@@ -87,7 +90,7 @@ pub const REFUSED: u64 = 2;
 /// Numbers that [`run`] writes into `answer`.
 pub const RUN_ANSWER: usize = 5;
 /// Numbers that [`read_table`] writes into `answer`.
-pub const READ_ANSWER: usize = 5;
+pub const READ_ANSWER: usize = 6;
 /// Numbers that [`start_words`] writes into `answer`.
 pub const START_ANSWER: usize = 3;
 /// Numbers that [`step`] writes into `answer`.
@@ -140,12 +143,19 @@ pub fn read_table(text: &[u8], answer: &mut [u64], records: &mut [u64], names: &
 }
 
 /// `ccsl_start_words`.
-pub fn start_words(records: &[u64], clocks: u32, words: &mut [i64], answer: &mut [u64]) -> u32 {
+pub fn start_words(
+    records: &[u64],
+    named: u32,
+    clocks: u32,
+    words: &mut [i64],
+    answer: &mut [u64],
+) -> u32 {
     // SAFETY: as in `run`.
     unsafe {
         header::ccsl_start_words(
             records.as_ptr(),
             records.len(),
+            named,
             clocks,
             words.as_mut_ptr(),
             words.len(),
@@ -158,6 +168,7 @@ pub fn start_words(records: &[u64], clocks: u32, words: &mut [i64], answer: &mut
 /// `ccsl_step`: the words are those of a monitor, which is moved where it stands.
 pub fn step(
     records: &[u64],
+    named: u32,
     clocks: u32,
     words: &mut [i64],
     ticks: u32,
@@ -168,6 +179,7 @@ pub fn step(
         header::ccsl_step(
             records.as_ptr(),
             records.len(),
+            named,
             clocks,
             words.as_mut_ptr(),
             words.len(),
@@ -181,6 +193,7 @@ pub fn step(
 /// `ccsl_same_place`.
 pub fn same_place(
     records: &[u64],
+    named: u32,
     clocks: u32,
     first: &[i64],
     second: &[i64],
@@ -191,6 +204,7 @@ pub fn same_place(
         header::ccsl_same_place(
             records.as_ptr(),
             records.len(),
+            named,
             clocks,
             first.as_ptr(),
             first.len(),

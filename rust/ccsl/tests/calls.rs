@@ -1,7 +1,8 @@
-//! The calls on small inputs whose answers document 01 and the header give.
+//! The calls on small inputs whose answers documents 01 and 02 and the header give.
 
 use ccsl::{
-    raw, Clock, Kind, Monitor, Record, Refusal, SamePlace, StepAnswer, Steps, Time, Verdict, WORDS,
+    raw, Clock, Clocks, Kind, Monitor, Record, Refusal, SamePlace, StepAnswer, Steps, Time,
+    Verdict, WORDS,
 };
 
 const TABLE: &[u8] = b"req strictly precedes ack\ndone clockDef await 2 ack\n";
@@ -22,6 +23,17 @@ fn relation(kind: Kind, first: u64, second: u64) -> Record {
         number: 0,
         line: 1,
     }
+}
+
+fn definition(kind: Kind, defined: u64, first: u64, second: u64) -> Record {
+    Record {
+        defined,
+        ..relation(kind, first, second)
+    }
+}
+
+fn all_named(count: u32) -> Clocks {
+    Clocks::all_named(count)
 }
 
 fn configuration(words: &[i64]) -> [i64; WORDS] {
@@ -119,7 +131,7 @@ fn calls_run_at_once_from_several_threads() {
                     assert_eq!(ccsl::read_table(TABLE), Ok(table.clone()));
                     assert_eq!(ccsl::run(TABLE, RECORDING).steps, Steps(4));
                     let mut words = configuration(&[0, 2]);
-                    let answer = ccsl::step(&table.records, 3, &mut words, 0b001);
+                    let answer = ccsl::step(&table.records, all_named(3), &mut words, 0b001);
                     assert_eq!(
                         (answer, words),
                         (StepAnswer::Accepted, configuration(&[1, 2]))
@@ -153,9 +165,9 @@ fn single_steps_begin_with_the_start_words() {
     )
     .unwrap();
     let start = configuration(&[0, 3, 2, 1, 2, 0, 1_000_000]);
-    assert_eq!(ccsl::start_words(&table.records, 8), Ok(start));
+    assert_eq!(ccsl::start_words(&table.records, all_named(8)), Ok(start));
     assert_eq!(*Monitor::of_table(&table).unwrap().words(), start);
-    assert_eq!(ccsl::start_words(&[], 0), Ok(configuration(&[])));
+    assert_eq!(ccsl::start_words(&[], all_named(0)), Ok(configuration(&[])));
 }
 
 #[test]
@@ -174,7 +186,7 @@ fn records_that_a_step_refuses_do_not_start() {
         ([vec![excludes; 70], vec![twice]].concat(), 2, 65),
     ];
     for (records, clocks, place) in cases {
-        let refusal = Refusal { number: 59, place };
+        let (refusal, clocks) = (Refusal { number: 59, place }, all_named(clocks));
         assert_eq!(ccsl::start_words(&records, clocks), Err(refusal));
         assert_eq!(Monitor::of_records(&records, clocks), Err(refusal));
         let mut words = configuration(&[]);
@@ -185,7 +197,7 @@ fn records_that_a_step_refuses_do_not_start() {
     }
     let (mut a, mut w) = (left(4), left_words(66));
     assert_eq!(
-        raw::start_words(&[10, 1, 0, 0, 0, 1], 2, &mut w, &mut a),
+        raw::start_words(&[10, 1, 0, 0, 0, 1], 2, 2, &mut w, &mut a),
         raw::DONE
     );
     assert_eq!(a, [2, 59, 1, LEFT]);
@@ -220,7 +232,8 @@ fn a_monitor_is_moved_where_it_stands() {
 
 #[test]
 fn a_monitor_of_records_needs_no_table() {
-    let mut monitor = Monitor::of_records(&[relation(Kind::StrictlyPrecedes, 3, 31)], 32).unwrap();
+    let mut monitor =
+        Monitor::of_records(&[relation(Kind::StrictlyPrecedes, 3, 31)], all_named(32)).unwrap();
     assert_eq!(monitor.step(1 << 31), StepAnswer::Violated(1));
     assert_eq!(monitor.step(1 << 3), StepAnswer::Accepted);
     assert_eq!(monitor.step(1 << 31 | 1 << 3), StepAnswer::Accepted);
@@ -228,20 +241,259 @@ fn a_monitor_of_records_needs_no_table() {
 }
 
 #[test]
+fn implicit_clocks_are_numbered_behind_all_names() {
+    let text = b"((a clockUnion b)upto c)precedes d\nx clockDef await 2(d lub(e glb(await 3 f)))";
+    let table = ccsl::read_table(text).unwrap();
+    let on = |line, record| Record { line, ..record };
+    let awaits = |defined, first, number| Record {
+        number,
+        ..definition(Kind::Await, defined, first, 0)
+    };
+    assert_eq!(
+        table.records,
+        [
+            on(1, definition(Kind::Union, 7, 0, 1)),
+            on(1, definition(Kind::Upto, 8, 7, 2)),
+            on(1, relation(Kind::Precedes, 8, 3)),
+            on(2, awaits(9, 6, 3)),
+            on(2, definition(Kind::Glb, 10, 5, 9)),
+            on(2, definition(Kind::Lub, 11, 3, 10)),
+            on(2, awaits(4, 11, 2)),
+        ]
+    );
+    let names: Vec<&str> = table.clocks.iter().map(|c| c.name.as_str()).collect();
+    assert_eq!(names, ["a", "b", "c", "d", "x", "e", "f"]);
+    assert_eq!(table.implicit, 5);
+    let (named, count) = (7, 12);
+    assert_eq!(table.counts(), Clocks { named, count });
+
+    let (mut a, mut r, mut n) = (left(7), left(384), left(64));
+    assert_eq!(raw::read_table(text, &mut a, &mut r, &mut n), raw::DONE);
+    assert_eq!(a, [0, 0, 0, 7, 12, 7, LEFT]);
+    assert_eq!(r[..12], [6, 7, 0, 1, 0, 1, 13, 8, 7, 2, 0, 1]);
+    assert_eq!(r[36..42], [10, 4, 11, 0, 2, 2]);
+    assert_eq!(n[12..16], [74, 75, 0, 0]);
+}
+
+#[test]
+fn a_table_without_parentheses_has_no_implicit_clock() {
+    let table = ccsl::read_table(TABLE).unwrap();
+    assert_eq!((table.implicit, table.counts()), (0, all_named(3)));
+}
+
+/// The line of document 02, and its named clocks.
+const NESTED: &[u8] = b"((a clockUnion b) upto c) precedes d";
+const A: u32 = 1 << 0;
+const B: u32 = 1 << 1;
+const C: u32 = 1 << 2;
+const D: u32 = 1 << 3;
+
+#[test]
+fn a_step_works_out_the_ticks_of_implicit_clocks() {
+    let mut monitor = Monitor::of_table(&ccsl::read_table(NESTED).unwrap()).unwrap();
+    assert_eq!(*monitor.words(), configuration(&[0, 1, 0]));
+    let steps = [
+        (B, StepAnswer::Accepted, [0, 1, 1]),
+        (A | B | D, StepAnswer::Accepted, [0, 1, 1]),
+        (D, StepAnswer::Accepted, [0, 1, 0]),
+        (D, StepAnswer::Violated(3), [0, 1, 0]),
+        (A | C | D, StepAnswer::Violated(3), [0, 1, 0]),
+        (0, StepAnswer::Accepted, [0, 1, 0]),
+        (A | C, StepAnswer::Accepted, [0, 0, 0]),
+        (A, StepAnswer::Accepted, [0, 0, 0]),
+        (A | D, StepAnswer::Violated(3), [0, 0, 0]),
+    ];
+    for (ticks, answer, words) in steps {
+        assert_eq!(monitor.step(ticks), answer, "{ticks:#b}");
+        assert_eq!(*monitor.words(), configuration(&words), "{ticks:#b}");
+    }
+}
+
+#[test]
+fn a_run_records_named_clocks_alone() {
+    let header = b"$var event 1 ! a $end $var event 1 % b $end $var event 1 & c $end
+        $var event 1 + d $end $enddefinitions $end";
+    let run = |body: &[u8]| ccsl::run(NESTED, &[&header[..], body].concat()).to_string();
+    assert_eq!(
+        run(b" #0 1% #2 1! 1% 1+ #3 1+ #7 1! 1&"),
+        "accepted\nsteps 4\nconfig 0 0 0\n"
+    );
+    assert_eq!(
+        run(b" #0 1% #2 1+ #5 1! 1& 1+ #6 1!"),
+        "violated 1 5\nsteps 2\nconfig 0 1 0\n"
+    );
+}
+
+#[test]
+fn a_tick_set_holds_named_clocks_alone() {
+    let refused = StepAnswer::Refused(Refusal {
+        number: 61,
+        place: 0,
+    });
+    let records = [definition(Kind::Lub, 2, 0, 1)];
+    let (named, count) = (2, 3);
+    let mut words = configuration(&[]);
+    let mut step = |clocks, ticks| ccsl::step(&records, clocks, &mut words, ticks);
+    assert_eq!(step(Clocks { named, count }, 0b011), StepAnswer::Accepted);
+    for ticks in [0b100, 0b111, 0b1000, 1 << 31, u32::MAX] {
+        assert_eq!(step(Clocks { named, count }, ticks), refused, "{ticks:#b}");
+    }
+    assert_eq!(step(all_named(3), 0b111), StepAnswer::Accepted);
+    assert_eq!(step(all_named(3), 0b011), StepAnswer::Violated(1));
+    assert_eq!(step(all_named(3), 0b1000), refused);
+
+    let (named, count) = (0, 32);
+    let clocks = Clocks { named, count };
+    let mut words = configuration(&[]);
+    assert_eq!(ccsl::step(&[], clocks, &mut words, 0), StepAnswer::Accepted);
+    assert_eq!(ccsl::step(&[], clocks, &mut words, 1), refused);
+}
+
+#[test]
+fn a_word_of_an_implicit_clock_has_its_million() {
+    let records = [definition(Kind::Glb, 2, 0, 1)];
+    let (named, count) = (2, 3);
+    let mut words = configuration(&[1_000_000]);
+    assert_eq!(
+        ccsl::step(&records, Clocks { named, count }, &mut words, 0b01),
+        StepAnswer::Refused(Refusal {
+            number: 51,
+            place: 1
+        })
+    );
+    assert_eq!(words, configuration(&[1_000_000]));
+}
+
+/// What the three calls on records say of 59, which is the same.
+fn place_of_59(records: &[Record], clocks: Clocks) -> Option<u64> {
+    let place = |r: Refusal| (r.number == 59).then_some(r.place);
+    let start = ccsl::start_words(records, clocks).err().and_then(place);
+    let mut words = configuration(&[]);
+    let step = match ccsl::step(records, clocks, &mut words, 0) {
+        StepAnswer::Refused(refusal) => place(refusal),
+        _ => None,
+    };
+    let same = match ccsl::same_place(records, clocks, &words, &words) {
+        SamePlace::Refused(refusal) => place(refusal),
+        _ => None,
+    };
+    assert_eq!((start, step), (step, same));
+    same
+}
+
+#[test]
+fn more_named_clocks_than_clocks_are_59_at_0() {
+    let twice = relation(Kind::Excludes, 1, 1);
+    for (named, count, place) in [
+        (2, 2, None),
+        (0, 2, None),
+        (3, 2, Some(0)),
+        (1, 0, Some(0)),
+        (32, 32, None),
+        (33, 32, Some(0)),
+        (32, 33, Some(0)),
+        (33, 33, Some(0)),
+        (256, 0, Some(0)),
+        (256, 32, Some(0)),
+        (0, 256, Some(0)),
+        (300, 300, Some(0)),
+        (u32::MAX, 32, Some(0)),
+        (u32::MAX, u32::MAX, Some(0)),
+    ] {
+        let clocks = Clocks { named, count };
+        assert_eq!(place_of_59(&[], clocks), place, "{clocks:?}");
+        if place.is_some() {
+            assert_eq!(place_of_59(&[twice], clocks), place, "{clocks:?}");
+        }
+    }
+}
+
+#[test]
+fn an_implicit_clock_without_a_definition_above_is_59() {
+    let lub = definition(Kind::Lub, 2, 0, 1);
+    let first = relation(Kind::Excludes, 2, 0);
+    let second = relation(Kind::Excludes, 0, 2);
+    let awaits = |first, second| Record {
+        number: 1,
+        ..definition(Kind::Await, 1, first, second)
+    };
+    let upto = definition(Kind::Upto, 3, 0, 2);
+    let unused = Record {
+        defined: 2,
+        ..relation(Kind::Empty, 2, 2)
+    };
+    let cases: [(&[Record], Option<u64>); 13] = [
+        (&[relation(Kind::Excludes, 0, 1)], None),
+        (&[first], Some(1)),
+        (&[second], Some(1)),
+        (&[lub, first, second], None),
+        (&[first, lub], Some(1)),
+        (&[relation(Kind::Excludes, 0, 1), second, lub], Some(2)),
+        (&[lub], None),
+        (&[awaits(2, 0)], Some(1)),
+        (&[awaits(0, 2)], None),
+        (&[unused, upto], Some(2)),
+        (&[lub, upto, relation(Kind::Precedes, 3, 2)], None),
+        (&[upto, lub], Some(1)),
+        (&[lub, relation(Kind::Precedes, 3, 2), upto], Some(2)),
+    ];
+    let (named, count) = (2, 4);
+    for (records, place) in cases {
+        assert_eq!(
+            place_of_59(records, Clocks { named, count }),
+            place,
+            "{records:?}"
+        );
+        assert_eq!(place_of_59(records, all_named(4)), None, "{records:?}");
+    }
+}
+
+#[test]
+fn implicit_clocks_may_be_defined_in_any_order_of_their_numbers() {
+    let records = [
+        definition(Kind::Union, 3, 0, 1),
+        definition(Kind::Inter, 2, 3, 0),
+        relation(Kind::SubClock, 2, 3),
+    ];
+    let (named, count) = (2, 4);
+    assert_eq!(place_of_59(&records, Clocks { named, count }), None);
+    let mut words = configuration(&[]);
+    for ticks in [0b00, 0b01, 0b10, 0b11] {
+        let answer = ccsl::step(&records, Clocks { named, count }, &mut words, ticks);
+        assert_eq!(answer, StepAnswer::Accepted);
+    }
+}
+
+#[test]
+fn places_are_told_apart_by_the_word_of_an_implicit_clock() {
+    let records = [
+        definition(Kind::Upto, 2, 0, 1),
+        relation(Kind::Excludes, 2, 1),
+    ];
+    let (named, count) = (2, 3);
+    let (open, shut) = (configuration(&[1]), configuration(&[0]));
+    let place = |second| ccsl::same_place(&records, Clocks { named, count }, &open, second);
+    assert_eq!(
+        (place(&open), place(&shut)),
+        (SamePlace::Same, SamePlace::Different)
+    );
+}
+
+#[test]
 fn a_step_moves_the_configuration_only_where_it_is_accepted() {
     let records = [relation(Kind::Precedes, 0, 1)];
     let mut words = configuration(&[0]);
     assert_eq!(
-        ccsl::step(&records, 2, &mut words, 0b01),
+        ccsl::step(&records, all_named(2), &mut words, 0b01),
         StepAnswer::Accepted
     );
     assert_eq!(words, configuration(&[1]));
     assert_eq!(
-        ccsl::step(&records, 2, &mut words, 0b10),
+        ccsl::step(&records, all_named(2), &mut words, 0b10),
         StepAnswer::Accepted
     );
     assert_eq!(
-        ccsl::step(&records, 2, &mut words, 0b10),
+        ccsl::step(&records, all_named(2), &mut words, 0b10),
         StepAnswer::Violated(1)
     );
     assert_eq!(words, configuration(&[0]));
@@ -252,7 +504,7 @@ fn a_word_at_its_million_stays_there() {
     let records = [relation(Kind::Precedes, 0, 1)];
     let mut words = configuration(&[1_000_000]);
     assert_eq!(
-        ccsl::step(&records, 2, &mut words, 0b01),
+        ccsl::step(&records, all_named(2), &mut words, 0b01),
         StepAnswer::Refused(Refusal {
             number: 51,
             place: 1
@@ -260,7 +512,7 @@ fn a_word_at_its_million_stays_there() {
     );
     assert_eq!(words, configuration(&[1_000_000]));
     assert_eq!(
-        ccsl::step(&records, 2, &mut words, 0b11),
+        ccsl::step(&records, all_named(2), &mut words, 0b11),
         StepAnswer::Accepted
     );
     assert_eq!(words, configuration(&[1_000_000]));
@@ -270,14 +522,17 @@ fn a_word_at_its_million_stays_there() {
 fn places_are_the_same_or_different() {
     let records = [relation(Kind::Precedes, 0, 1)];
     let (zero, one) = (configuration(&[0]), configuration(&[1]));
-    assert_eq!(ccsl::same_place(&records, 2, &zero, &zero), SamePlace::Same);
     assert_eq!(
-        ccsl::same_place(&records, 2, &zero, &one),
+        ccsl::same_place(&records, all_named(2), &zero, &zero),
+        SamePlace::Same
+    );
+    assert_eq!(
+        ccsl::same_place(&records, all_named(2), &zero, &one),
         SamePlace::Different
     );
     let below = configuration(&[-1]);
     assert_eq!(
-        ccsl::same_place(&records, 2, &zero, &below),
+        ccsl::same_place(&records, all_named(2), &zero, &below),
         SamePlace::Refused(Refusal {
             number: 60,
             place: 1
@@ -288,23 +543,26 @@ fn places_are_the_same_or_different() {
 #[test]
 fn no_records_and_no_clocks_accept_the_empty_step() {
     let mut words = configuration(&[]);
-    assert_eq!(ccsl::step(&[], 0, &mut words, 0), StepAnswer::Accepted);
     assert_eq!(
-        ccsl::step(&[], 0, &mut words, 1),
+        ccsl::step(&[], all_named(0), &mut words, 0),
+        StepAnswer::Accepted
+    );
+    assert_eq!(
+        ccsl::step(&[], all_named(0), &mut words, 1),
         StepAnswer::Refused(Refusal {
             number: 61,
             place: 0
         })
     );
     assert_eq!(
-        ccsl::step(&[], 33, &mut words, 0),
+        ccsl::step(&[], all_named(33), &mut words, 0),
         StepAnswer::Refused(Refusal {
             number: 59,
             place: 0
         })
     );
     assert_eq!(
-        ccsl::same_place(&[], u32::MAX, &words, &words),
+        ccsl::same_place(&[], all_named(u32::MAX), &words, &words),
         SamePlace::Refused(Refusal {
             number: 59,
             place: 0
@@ -319,7 +577,7 @@ fn over_64_records_are_refused_at_65() {
         let records = vec![relation(Kind::Excludes, 0, 1); count];
         let mut words = given;
         assert_eq!(
-            ccsl::step(&records, 2, &mut words, 0),
+            ccsl::step(&records, all_named(2), &mut words, 0),
             StepAnswer::Refused(Refusal {
                 number: 59,
                 place: 65
@@ -327,7 +585,7 @@ fn over_64_records_are_refused_at_65() {
         );
         assert_eq!(words, given);
         assert_eq!(
-            ccsl::same_place(&records, 2, &given, &given),
+            ccsl::same_place(&records, all_named(2), &given, &given),
             SamePlace::Refused(Refusal {
                 number: 59,
                 place: 65
@@ -338,7 +596,7 @@ fn over_64_records_are_refused_at_65() {
     records[2].second = 0;
     let mut words = given;
     assert_eq!(
-        ccsl::step(&records, 2, &mut words, 0),
+        ccsl::step(&records, all_named(2), &mut words, 0),
         StepAnswer::Refused(Refusal {
             number: 59,
             place: 3
@@ -373,11 +631,11 @@ fn too_short_a_list_for_a_run_is_told_and_nothing_written() {
 #[test]
 fn too_short_a_list_for_a_table_is_told_and_nothing_written() {
     let cases = [
-        (4, 384, 64, raw::ANSWER_SHORT),
-        (4, 383, 63, raw::ANSWER_SHORT),
-        (5, 383, 64, raw::RECORDS_SHORT),
-        (5, 0, 0, raw::RECORDS_SHORT),
-        (5, 384, 63, raw::NAMES_SHORT),
+        (5, 384, 64, raw::ANSWER_SHORT),
+        (5, 383, 63, raw::ANSWER_SHORT),
+        (6, 383, 64, raw::RECORDS_SHORT),
+        (6, 0, 0, raw::RECORDS_SHORT),
+        (6, 384, 63, raw::NAMES_SHORT),
     ];
     for (answer, records, names, status) in cases {
         let (mut a, mut r, mut n) = (left(answer), left(records), left(names));
@@ -403,20 +661,20 @@ fn lists_of_a_wrong_shape_for_records_are_told_and_nothing_written() {
     ];
     for (records, answer, words, status) in cases {
         let (mut a, mut w) = (left(answer), left_words(words));
-        assert_eq!(raw::step(records, 2, &mut w, 0, &mut a), status);
+        assert_eq!(raw::step(records, 2, 2, &mut w, 0, &mut a), status);
         assert_eq!((&a, &w), (&left(answer), &left_words(words)));
-        assert_eq!(raw::start_words(records, 2, &mut w, &mut a), status);
+        assert_eq!(raw::start_words(records, 2, 2, &mut w, &mut a), status);
         assert_eq!((&a, &w), (&left(answer), &left_words(words)));
-        assert_eq!(raw::same_place(records, 2, &w, &w, &mut a), status);
+        assert_eq!(raw::same_place(records, 2, 2, &w, &w, &mut a), status);
         assert_eq!(a, left(answer));
     }
     let (mut a, w) = (left(3), left_words(64));
     assert_eq!(
-        raw::same_place(&good, 2, &w, &w[..63], &mut a),
+        raw::same_place(&good, 2, 2, &w, &w[..63], &mut a),
         raw::WORDS_SHORT
     );
     assert_eq!(
-        raw::same_place(&good, 2, &w[..63], &w, &mut a),
+        raw::same_place(&good, 2, 2, &w[..63], &w, &mut a),
         raw::WORDS_SHORT
     );
     assert_eq!(a, left(3));
@@ -426,7 +684,7 @@ fn lists_of_a_wrong_shape_for_records_are_told_and_nothing_written() {
 fn an_unknown_kind_is_told_before_a_refusal() {
     let (mut a, mut w) = (left(3), left_words(64));
     assert_eq!(
-        raw::step(&[14, 0, 0, 0, 0, 0], 99, &mut w, u32::MAX, &mut a),
+        raw::step(&[14, 0, 0, 0, 0, 0], 99, 99, &mut w, u32::MAX, &mut a),
         raw::KIND_UNKNOWN
     );
     assert_eq!((a, w), (left(3), left_words(64)));
@@ -441,7 +699,7 @@ fn of_longer_lists_the_rest_is_left_alone() {
 
     let (mut a, mut w) = (left(4), left_words(70));
     assert_eq!(
-        raw::start_words(&[4, 0, 0, 1, 0, 1], 2, &mut w, &mut a),
+        raw::start_words(&[4, 0, 0, 1, 0, 1], 2, 2, &mut w, &mut a),
         raw::DONE
     );
     assert_eq!(a, [0, 0, 0, LEFT]);
@@ -449,7 +707,7 @@ fn of_longer_lists_the_rest_is_left_alone() {
 
     let mut a = left(4);
     assert_eq!(
-        raw::step(&[4, 0, 0, 1, 0, 1], 2, &mut w, 1, &mut a),
+        raw::step(&[4, 0, 0, 1, 0, 1], 2, 2, &mut w, 1, &mut a),
         raw::DONE
     );
     assert_eq!(a, [0, 0, 0, LEFT]);
@@ -457,7 +715,7 @@ fn of_longer_lists_the_rest_is_left_alone() {
 
     let mut a = left(4);
     assert_eq!(
-        raw::same_place(&[4, 0, 0, 1, 0, 1], 2, &w, &w, &mut a),
+        raw::same_place(&[4, 0, 0, 1, 0, 1], 2, 2, &w, &w, &mut a),
         raw::DONE
     );
     assert_eq!(a, [0, 0, 0, LEFT]);
@@ -465,9 +723,9 @@ fn of_longer_lists_the_rest_is_left_alone() {
 
 #[test]
 fn a_table_that_is_read_fills_its_lists_with_zeros() {
-    let (mut a, mut r, mut n) = (left(6), left(390), left(66));
+    let (mut a, mut r, mut n) = (left(7), left(390), left(66));
     assert_eq!(raw::read_table(TABLE, &mut a, &mut r, &mut n), raw::DONE);
-    assert_eq!(a, [0, 0, 0, 2, 3, LEFT]);
+    assert_eq!(a, [0, 0, 0, 2, 3, 3, LEFT]);
     assert_eq!(r[..12], [4, 0, 0, 1, 0, 1, 10, 2, 1, 0, 2, 2]);
     assert_eq!((&r[12..384], &r[384..]), (&[0; 372][..], &[LEFT; 6][..]));
     assert_eq!(n[..6], [0, 3, 22, 25, 26, 30]);
@@ -476,21 +734,23 @@ fn a_table_that_is_read_fills_its_lists_with_zeros() {
 
 #[test]
 fn a_refused_table_leaves_its_lists_empty() {
-    let (mut a, mut r, mut n) = (left(5), left(384), left(64));
-    assert_eq!(
-        raw::read_table(b"a = b\na # c\nb precedes", &mut a, &mut r, &mut n),
-        raw::DONE
-    );
-    assert_eq!(a, [2, 12, 3, 0, 0]);
-    assert_eq!((r, n), (vec![0; 384], vec![0; 64]));
+    let cases: [(&[u8], u64, u64); 4] = [
+        (b"a = b\na # c\nb precedes", 12, 3),
+        (b"(a lub b) = c\n(a lub b = c", 20, 2),
+        (b"(a lub b) = c\n)(((((((((((((((((", 19, 2),
+        (b"(a lub b) = c\n\n(a lub (b glb d)) = a", 15, 3),
+    ];
+    for (text, number, line) in cases {
+        let (mut a, mut r, mut n) = (left(6), left(384), left(64));
+        assert_eq!(raw::read_table(text, &mut a, &mut r, &mut n), raw::DONE);
+        assert_eq!(a, [2, number, line, 0, 0, 0]);
+        assert_eq!((r, n), (vec![0; 384], vec![0; 64]));
 
-    let (mut a, mut w) = (left(5), left_words(64));
-    assert_eq!(
-        raw::run(b"a = b\na # c\nb precedes", RECORDING, &mut a, &mut w),
-        raw::DONE
-    );
-    assert_eq!(a, [2, 12, 3, 0, 0]);
-    assert_eq!(w, [0; 64]);
+        let (mut a, mut w) = (left(5), left_words(64));
+        assert_eq!(raw::run(text, RECORDING, &mut a, &mut w), raw::DONE);
+        assert_eq!(a, [2, number, line, 0, 0]);
+        assert_eq!(w, [0; 64]);
+    }
 }
 
 #[test]
@@ -498,7 +758,7 @@ fn words_out_of_range_are_handed_back() {
     let mut a = left(3);
     let mut w = left_words(64);
     assert_eq!(
-        raw::step(&[4, 0, 0, 1, 0, 1], 2, &mut w, 1, &mut a),
+        raw::step(&[4, 0, 0, 1, 0, 1], 2, 2, &mut w, 1, &mut a),
         raw::DONE
     );
     assert_eq!(a, [2, 60, 1]);

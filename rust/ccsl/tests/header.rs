@@ -54,19 +54,19 @@ fn read(text: &[u8], answer: usize, records: usize, names: usize) -> (Called, Ve
 
 fn start(records: &[u64], answer: usize, words: usize) -> Called {
     let (mut answer, mut words) = (vec![0; answer], vec![0; words]);
-    let status = raw::start_words(records, 2, &mut words, &mut answer);
+    let status = raw::start_words(records, 2, 2, &mut words, &mut answer);
     (status, answer)
 }
 
 fn step(records: &[u64], ticks: u32, answer: usize, words: usize) -> Called {
     let (mut answer, mut words) = (vec![0; answer], vec![0; words]);
-    let status = raw::step(records, 2, &mut words, ticks, &mut answer);
+    let status = raw::step(records, 2, 2, &mut words, ticks, &mut answer);
     (status, answer)
 }
 
 fn place(records: &[u64], answer: usize, first: &[i64], second: &[i64]) -> Called {
     let mut answer = vec![0; answer];
-    let status = raw::same_place(records, 2, first, second, &mut answer);
+    let status = raw::same_place(records, 2, 2, first, second, &mut answer);
     (status, answer)
 }
 
@@ -458,6 +458,7 @@ fn the_header_is_read() {
         [
             pair("*const u64", "records"),
             pair("usize", "records_len"),
+            pair("u32", "named"),
             pair("u32", "clocks"),
             pair("*mut i64", "words"),
             pair("usize", "words_len"),
@@ -520,6 +521,10 @@ fn other_prototypes_are_told() {
         ("const uint8_t *recording", "uint8_t *recording"),
         ("const int64_t *first", "const uint64_t *first"),
         ("                   uint32_t ticks,\n", ""),
+        (
+            "\n                   uint32_t named, uint32_t clocks,",
+            "\n                   uint32_t clocks, uint32_t named,",
+        ),
         (
             "ccsl_start_words(const uint64_t",
             "ccsl_start_words(uint64_t",

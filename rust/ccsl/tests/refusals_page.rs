@@ -3,19 +3,19 @@
 //!
 //! A block is fenced with ```` ```step ```` or ```` ```same-place ````, one item a line:
 //!
-//! - `clocks 2`
+//! - `clocks 3`, and `named 2` where not all of them are named
 //! - `record precedes c=0 a=0 b=1 n=0`
 //! - `words 1 0`, or `first 1 0` and `second 1 0`
 //! - `ticks 0 1`
 //! - `answer accepted`, `violated 1`, `same`, `different` or `refused 51 1`
 
-use ccsl::{Configuration, Kind, Record, Refusal, SamePlace, StepAnswer, KINDS, WORDS};
+use ccsl::{Clocks, Configuration, Kind, Record, Refusal, SamePlace, StepAnswer, KINDS, WORDS};
 use std::fs;
 use std::path::{Path, PathBuf};
 
 /// The numbers of a run, and those of a single step and the same-place question.
-const OF_A_RUN: [u64; 22] = [
-    10, 11, 12, 13, 14, 15, 16, 17, 18, 30, 31, 32, 33, 34, 35, 36, 37, 40, 41, 42, 43, 44,
+const OF_A_RUN: [u64; 24] = [
+    10, 11, 12, 13, 14, 15, 16, 17, 18, 19, 20, 30, 31, 32, 33, 34, 35, 36, 37, 40, 41, 42, 43, 44,
 ];
 const OF_A_CALL: [u64; 4] = [51, 59, 60, 61];
 
@@ -41,7 +41,7 @@ const WORDS_OF_KINDS: [&str; 14] = [
 struct Block {
     same_place: bool,
     records: Vec<Record>,
-    clocks: u32,
+    clocks: Clocks,
     /// Of `words` or `first`, and of `second`.
     configurations: [Configuration; 2],
     ticks: u32,
@@ -79,15 +79,17 @@ fn block(same_place: bool, items: &[&str], at: usize) -> Block {
     let mut block = Block {
         same_place,
         records: Vec::new(),
-        clocks: 0,
+        clocks: Clocks::all_named(0),
         configurations: [[0; WORDS]; 2],
         ticks: 0,
         answer: String::new(),
     };
+    let mut named = None;
     for item in items.iter().filter(|item| !item.is_empty()) {
         let (word, rest) = item.split_once(' ').unwrap_or((item, ""));
         match word {
-            "clocks" => block.clocks = number(rest, at),
+            "clocks" => block.clocks = Clocks::all_named(number(rest, at)),
+            "named" => named = Some(number(rest, at)),
             "record" => block.records.push(record(rest, at)),
             "words" | "first" => block.configurations[0] = configuration(rest, at),
             "second" => block.configurations[1] = configuration(rest, at),
@@ -100,6 +102,7 @@ fn block(same_place: bool, items: &[&str], at: usize) -> Block {
             _ => panic!("line {at}: no such item: {item}"),
         }
     }
+    block.clocks.named = named.unwrap_or(block.clocks.count);
     block
 }
 
@@ -233,7 +236,7 @@ fn every_number_of_a_run_has_a_folder() {
 fn blocks_are_read() {
     let page = "text\n```step\nclocks 3\nrecord await c=2 a=1 n=2\nrecord upto c=0 a=1 b=2\n\
         words 2 1\nticks 0 1\nanswer  refused 51  1\n```\n\
-        ```same-place\nfirst -1\nsecond 1\n```\n";
+        ```same-place\nnamed 1\nclocks 2\nfirst -1\nsecond 1\n```\n";
     let blocks = blocks(page);
     assert_eq!(
         blocks.iter().map(|(at, _)| *at).collect::<Vec<_>>(),
@@ -242,7 +245,7 @@ fn blocks_are_read() {
     let (one, two) = (&blocks[0].1, &blocks[1].1);
     assert_eq!(
         (one.same_place, one.clocks, one.ticks, one.answer.as_str()),
-        (false, 3, 0b011, "refused 51 1")
+        (false, Clocks::all_named(3), 0b011, "refused 51 1")
     );
     assert_eq!(
         one.records[0],
@@ -256,6 +259,7 @@ fn blocks_are_read() {
         }
     );
     assert_eq!(one.configurations[0][..3], [2, 1, 0]);
+    assert_eq!((two.clocks.named, two.clocks.count), (1, 2));
     assert_eq!(
         (
             two.same_place,

@@ -1,12 +1,12 @@
 -- `ccsl_read_table` meets its contract: the checks, then what the reader told, written number by number. Assumes nothing.
-use mathlib.Core.Path.{sym, ap, _∙_, subst}
+use mathlib.Core.Path.{ap, _∙_}
 use mathlib.Core.List.{List, [], _∷_}
-use Prim.Native.Nat.{ℕ, _≤_, _<_}
+use Prim.Native.Nat.{ℕ, _<_}
 use native.Mathlib.Omega.{arith}
 use lib.ListN.{length}
 use lib.Seq.{sets, lt-length-sets}
 use Rattle.grammar.specs.Building.{clocksIn}
-use Rattle.table.specs.Reader.{Told, said}
+use Rattle.table.specs.Reader.{said}
 use Rattle.table.proofs.TableVerdict.{most-clocks}
 use Rattle.monitor_c.specs.Calls.{written, done, tableLeft, readLeft}
 use Rattle.monitor_c.specs.Numbers.{ofTable, answerAnd, recordNumbers}
@@ -18,8 +18,7 @@ use Rattle.monitor_c.proofs.ccsl_read_table.Tie as tie
 add-answer : tie.Need-add-answer
 add-answer c =
     let read = c .before .before .before .before .before .before .before .before .before in
-    let few = subst (λ (t : Told). clocksIn (t .table) .count ≤ 32) (sym (read .read-table .ensures)) (most-clocks _) in
-    omega (arith, few)
+    omega (arith, most-clocks _ (read .read-table .result) (read .read-table .ensures))
 
 slice-write-answer-2 : tie.Need-slice-write-answer-2
 slice-write-answer-2 c =
