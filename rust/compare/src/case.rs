@@ -1,5 +1,6 @@
 //! One question to a monitor, and the answer to it.
 
+use ccsl::Clocks;
 use second_opinion::{Configuration, Record, Refusal, Report, SamePlace, StepAnswer, Verdict};
 use std::fmt;
 use std::ops::Range;
@@ -12,18 +13,21 @@ pub enum Case {
     /// Reading a table.
     Read { text: Vec<u8> },
     /// The start words of records.
-    Start { records: Vec<Record>, clocks: u32 },
+    Start {
+        records: Vec<Record>,
+        clocks: Clocks,
+    },
     /// A single step.
     Step {
         records: Vec<Record>,
-        clocks: u32,
+        clocks: Clocks,
         words: Configuration,
         ticks: u32,
     },
     /// Whether two configurations stand at the same place.
     Place {
         records: Vec<Record>,
-        clocks: u32,
+        clocks: Clocks,
         first: Configuration,
         second: Configuration,
     },
@@ -31,7 +35,7 @@ pub enum Case {
     /// most `depth` sets.
     Search {
         records: Vec<Record>,
-        clocks: u32,
+        clocks: Clocks,
         first: Configuration,
         second: Configuration,
         depth: usize,
@@ -51,12 +55,13 @@ pub enum Answer {
     Panicked(String),
 }
 
-/// A table that was read: the records, the clocks with the places at which they first stand in the
-/// text, and the start words.
+/// A table that was read: the records, the named clocks with the places at which they first stand in
+/// the text, both counts, and the start words.
 #[derive(Clone, Debug, PartialEq, Eq)]
 pub struct Read {
     pub records: Vec<Record>,
     pub clocks: Vec<(String, Range<usize>)>,
+    pub counts: Clocks,
     pub start: Result<Configuration, Refusal>,
 }
 
@@ -90,7 +95,8 @@ impl fmt::Display for Case {
                 write_text(f, "text", text)
             }
             Case::Start { records, clocks } => {
-                writeln!(f, "start_words\n  clocks: {clocks}")?;
+                writeln!(f, "start_words")?;
+                write_clocks(f, clocks)?;
                 write_records(f, records)
             }
             Case::Step {
@@ -99,7 +105,8 @@ impl fmt::Display for Case {
                 words,
                 ticks,
             } => {
-                writeln!(f, "step\n  clocks: {clocks}\n  ticks: {ticks:#b}")?;
+                writeln!(f, "step\n  ticks: {ticks:#b}")?;
+                write_clocks(f, clocks)?;
                 write_records(f, records)?;
                 write_words(f, "words", words)
             }
@@ -116,7 +123,8 @@ impl fmt::Display for Case {
                 second,
                 ..
             } => {
-                writeln!(f, "same_place\n  clocks: {clocks}")?;
+                writeln!(f, "same_place")?;
+                write_clocks(f, clocks)?;
                 write_records(f, records)?;
                 write_words(f, "first", first)?;
                 write_words(f, "second", second)
@@ -139,6 +147,10 @@ fn write_text(f: &mut fmt::Formatter<'_>, name: &str, text: &[u8]) -> fmt::Resul
         head.escape_ascii(),
         tail.escape_ascii()
     )
+}
+
+fn write_clocks(f: &mut fmt::Formatter<'_>, Clocks { named, count }: &Clocks) -> fmt::Result {
+    writeln!(f, "  clocks: {count}, {named} named")
 }
 
 fn write_records(f: &mut fmt::Formatter<'_>, records: &[Record]) -> fmt::Result {

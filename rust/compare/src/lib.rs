@@ -74,7 +74,7 @@ fn compare_by(
         if answer != ask(other, &case) {
             return Err(Box::new(mismatch(seed, pair, group, &case, one, other)));
         }
-        tally.count(group, &answer);
+        tally.count(group, &case, &answer);
         progress(&tally);
     }
     Ok(tally)

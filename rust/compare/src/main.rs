@@ -2,7 +2,7 @@
 //! random questions.
 //!
 //! Without a seed it takes one from the clock. It fails at the first pair on which the two differ,
-//! and where a refusal number of document 01 never came up.
+//! and where a refusal number of documents 01 and 02 never came up.
 
 use compare::monitors::{library, second};
 use compare::tally::Tally;

@@ -1,6 +1,7 @@
 //! The two monitors, asked the same questions and answering in the same words.
 
 use crate::case::{Answer, Case, Read};
+use ccsl::Clocks;
 use second_opinion::{
     Configuration, Kind, Record, Refusal, Report, SamePlace, StepAnswer, Verdict,
 };
@@ -90,7 +91,8 @@ pub fn second(case: &Case) -> Answer {
             Answer::Read(second_opinion::read_table(text).map(|table| second_read(text, table)))
         }
         Case::Start { records, clocks } => {
-            Answer::Start(second_opinion::start_words(records, u64::from(*clocks)))
+            let (named, count) = counts(*clocks);
+            Answer::Start(second_opinion::start_words(records, named, count))
         }
         Case::Step {
             records,
@@ -98,8 +100,9 @@ pub fn second(case: &Case) -> Answer {
             words,
             ticks,
         } => {
+            let (named, count) = counts(*clocks);
             let mut words = *words;
-            let answer = second_opinion::step(records, u64::from(*clocks), &mut words, *ticks);
+            let answer = second_opinion::step(records, named, count, &mut words, *ticks);
             Answer::Step(answer, words)
         }
         Case::Place {
@@ -107,12 +110,12 @@ pub fn second(case: &Case) -> Answer {
             clocks,
             first,
             second,
-        } => Answer::Place(second_opinion::same_place(
-            records,
-            u64::from(*clocks),
-            first,
-            second,
-        )),
+        } => {
+            let (named, count) = counts(*clocks);
+            Answer::Place(second_opinion::same_place(
+                records, named, count, first, second,
+            ))
+        }
         Case::Search {
             records,
             clocks,
@@ -123,22 +126,27 @@ pub fn second(case: &Case) -> Answer {
     }
 }
 
+/// The named count and the clock count.
+fn counts(clocks: Clocks) -> (u64, u64) {
+    (clocks.named.into(), clocks.count.into())
+}
+
 /// Same place by search: some record tells the two apart by a continuation of at most `depth` sets,
 /// or none does.
 fn by_search(
     records: &[Record],
-    clocks: u32,
+    clocks: Clocks,
     first: &Configuration,
     second: &Configuration,
     depth: usize,
 ) -> SamePlace {
-    let clocks = u64::from(clocks);
-    if let SamePlace::Refused(refusal) = second_opinion::same_place(records, clocks, first, second)
-    {
+    let (named, count) = counts(clocks);
+    let by_rule = second_opinion::same_place(records, named, count, first, second);
+    if let SamePlace::Refused(refusal) = by_rule {
         return SamePlace::Refused(refusal);
     }
     let tells = |i: usize| {
-        second_opinion::told_apart(&records[i], clocks, first[i], second[i], depth).is_some()
+        second_opinion::told_apart(&records[i], named, count, first[i], second[i], depth).is_some()
     };
     if (0..records.len()).any(tells) {
         SamePlace::Different
@@ -153,16 +161,20 @@ fn second_read(text: &[u8], table: second_opinion::Table) -> Read {
         (name, place)
     };
     Read {
-        start: second_opinion::start_words(&table.records, table.names.len() as u64),
+        start: second_opinion::start_words(&table.records, table.named, table.clocks),
         records: table.records.into_iter().map(named).collect(),
         clocks: table.names.into_iter().map(place).collect(),
+        counts: Clocks {
+            named: table.named as u32,
+            count: table.clocks as u32,
+        },
     }
 }
 
 /// Where a word first stands in a table's text.
 fn first_place(text: &[u8], word: &[u8]) -> Range<usize> {
     let mut start = 0;
-    for piece in text.split(|byte| matches!(byte, b' ' | b'\n')) {
+    for piece in text.split(|byte| b" \n()".contains(byte)) {
         if piece == word {
             return start..start + piece.len();
         }
@@ -247,6 +259,7 @@ fn read(table: ccsl::Table) -> Read {
     let start = ccsl::Monitor::of_table(&table).map(|monitor| *monitor.words());
     Read {
         start: start.map_err(refusal),
+        counts: table.counts(),
         records: table
             .records
             .into_iter()

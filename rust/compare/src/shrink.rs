@@ -2,8 +2,11 @@
 //! and numbers made 0, greedily.
 
 use crate::case::Case;
-use second_opinion::{Configuration, Record, WORDS};
+use crate::monitors::defines;
+use ccsl::Clocks;
+use second_opinion::{Configuration, Kind, Record, WORDS};
 use std::cell::Cell;
+use std::cmp::Ordering;
 
 /// Whether two monitors differ on a case; no answer where the search has taken too long.
 type Differs<'a> = &'a dyn Fn(&Case) -> Option<bool>;
@@ -39,7 +42,7 @@ fn size(case: &Case) -> usize {
     }
 }
 
-/// The case with lines, words, bytes or records taken out.
+/// The case with lines, words, bytes, pairs of parentheses or records taken out.
 fn shorter(case: &Case, differs: Differs) -> Case {
     match case {
         Case::Run { table, recording } => {
@@ -47,12 +50,12 @@ fn shorter(case: &Case, differs: Differs) -> Case {
                 table: table.to_vec(),
                 recording: recording.to_vec(),
             };
-            let table = shorter_text(table, &|text| differs(&with(text, recording)));
+            let table = shorter_table(table, &|text| differs(&with(text, recording)));
             let recording = shorter_text(recording, &|text| differs(&with(&table, text)));
             with(&table, &recording)
         }
         Case::Read { text } => Case::Read {
-            text: shorter_text(text, &|text| {
+            text: shorter_table(text, &|text| {
                 differs(&Case::Read {
                     text: text.to_vec(),
                 })
@@ -96,6 +99,72 @@ fn shorter_text(text: &[u8], wanted: &dyn Fn(&[u8]) -> Option<bool>) -> Vec<u8> 
         text = fewer(pieces(&text, starts), &|pieces| wanted(&pieces.concat())).concat();
     }
     text
+}
+
+/// The same of a table, and pairs of parentheses.
+fn shorter_table(text: &[u8], wanted: &dyn Fn(&[u8]) -> Option<bool>) -> Vec<u8> {
+    let mut text = shorter_text(text, wanted);
+    while let Some(next) = pairs(&text)
+        .into_iter()
+        .flat_map(|pair| without_pair(&text, pair))
+        .find(|next| wanted(next) == Some(true))
+    {
+        text = next;
+    }
+    text
+}
+
+/// The places of the parentheses that have a partner, outer pairs first.
+fn pairs(text: &[u8]) -> Vec<(usize, usize)> {
+    let mut open = Vec::new();
+    let mut pairs = Vec::new();
+    for (place, byte) in text.iter().enumerate() {
+        match byte {
+            b'(' => open.push(place),
+            b')' => pairs.extend(open.pop().map(|from| (from, place))),
+            b'\n' => open.clear(),
+            _ => {}
+        }
+    }
+    pairs.sort();
+    pairs
+}
+
+/// The texts with one part of what stands between two parentheses in their place, or without the two
+/// alone.
+fn without_pair(text: &[u8], (from, to): (usize, usize)) -> Vec<Vec<u8>> {
+    let between = &text[from + 1..to];
+    let mut parts = parts(between);
+    parts.push(between);
+    parts
+        .into_iter()
+        .map(|part| [&text[..from], part, &text[to + 1..]].concat())
+        .collect()
+}
+
+/// The words that stand in no parentheses, and what stands in each of the outermost ones, with them.
+fn parts(text: &[u8]) -> Vec<&[u8]> {
+    let outer = pairs(text);
+    let mut parts = Vec::new();
+    let mut at = 0;
+    while at < text.len() {
+        let pair = outer.iter().find(|(from, _)| *from == at);
+        let parting = |byte: &u8| b" ()".contains(byte);
+        let behind = match pair {
+            Some((_, to)) => to + 1,
+            None => {
+                at + text[at..]
+                    .iter()
+                    .position(parting)
+                    .unwrap_or(text.len() - at)
+            }
+        };
+        if behind > at {
+            parts.push(&text[at..behind]);
+        }
+        at = behind.max(at + 1);
+    }
+    parts
 }
 
 /// The text cut before each place that starts something.
@@ -223,46 +292,20 @@ fn simplifications(case: &Case) -> Vec<Case> {
             found.push(with_rows(case, &rows));
         }
     }
+    if let Some(clocks) = clocks(case) {
+        found.extend(lower_counts(clocks).map(|clocks| with_clocks(case, clocks)));
+        found.extend((0..clocks.count.min(32)).filter_map(|clock| without_clock(case, clock)));
+    }
     match case {
-        Case::Start { records, clocks } => {
-            found.extend(lower(*clocks).map(|clocks| Case::Start {
-                records: records.clone(),
-                clocks,
-            }));
+        Case::Step { words, ticks, .. } => {
+            found.extend((0..32).map(|bit| with_step(case, *words, ticks & !(1 << bit))));
+            found.extend(zeroed(words).map(|words| with_step(case, words, *ticks)));
         }
-        Case::Step {
-            records,
-            clocks,
-            words,
-            ticks,
-        } => {
-            let with = |clocks, words, ticks| Case::Step {
-                records: records.clone(),
-                clocks,
-                words,
-                ticks,
-            };
-            found.extend(lower(*clocks).map(|clocks| with(clocks, *words, *ticks)));
-            found.extend((0..32).map(|bit| with(*clocks, *words, ticks & !(1 << bit))));
-            found.extend(zeroed(words).map(|words| with(*clocks, words, *ticks)));
+        Case::Place { first, second, .. } | Case::Search { first, second, .. } => {
+            found.extend(zeroed(first).map(|words| with_place(case, words, *second)));
+            found.extend(zeroed(second).map(|words| with_place(case, *first, words)));
         }
-        Case::Place {
-            clocks,
-            first,
-            second,
-            ..
-        }
-        | Case::Search {
-            clocks,
-            first,
-            second,
-            ..
-        } => {
-            found.extend(lower(*clocks).map(|clocks| with_place(case, clocks, *first, *second)));
-            found.extend(zeroed(first).map(|words| with_place(case, *clocks, words, *second)));
-            found.extend(zeroed(second).map(|words| with_place(case, *clocks, *first, words)));
-        }
-        Case::Run { .. } | Case::Read { .. } => {}
+        Case::Start { .. } | Case::Run { .. } | Case::Read { .. } => {}
     }
     found
 }
@@ -277,11 +320,94 @@ fn field_of(record: &mut Record, field: usize) -> &mut u64 {
     }
 }
 
-/// Lower clock counts that are tried.
-fn lower(clocks: u32) -> impl Iterator<Item = u32> {
-    [0, 2, 3, 33, clocks.saturating_sub(1)]
+/// The counts of a case on records.
+fn clocks(case: &Case) -> Option<Clocks> {
+    match case {
+        Case::Start { clocks, .. }
+        | Case::Step { clocks, .. }
+        | Case::Place { clocks, .. }
+        | Case::Search { clocks, .. } => Some(*clocks),
+        Case::Run { .. } | Case::Read { .. } => None,
+    }
+}
+
+fn with_clocks(case: &Case, new: Clocks) -> Case {
+    let mut case = case.clone();
+    match &mut case {
+        Case::Start { clocks, .. }
+        | Case::Step { clocks, .. }
+        | Case::Place { clocks, .. }
+        | Case::Search { clocks, .. } => *clocks = new,
+        Case::Run { .. } | Case::Read { .. } => {}
+    }
+    case
+}
+
+/// Lower counts that are tried: of both, of all clocks, of the named ones.
+fn lower_counts(clocks: Clocks) -> impl Iterator<Item = Clocks> {
+    let Clocks { named, count } = clocks;
+    let of_both = lower(count).map(move |count| Clocks {
+        named: named.min(count),
+        count,
+    });
+    let of_all = lower(count).map(move |count| Clocks { named, count });
+    let of_named = lower(named).map(move |named| Clocks { named, count });
+    of_both.chain(of_all).chain(of_named)
+}
+
+fn lower(count: u32) -> impl Iterator<Item = u32> {
+    [0, 2, 3, 33, count.saturating_sub(1)]
         .into_iter()
-        .filter(move |lower| *lower < clocks)
+        .filter(move |lower| *lower < count)
+}
+
+/// The case without a clock that no record names and that does not tick: those above it are numbered
+/// one lower.
+fn without_clock(case: &Case, clock: u32) -> Option<Case> {
+    let mut case = with_clocks(case, clocks_without(clocks(case)?, clock));
+    let mut rows = rows(&case);
+    for (record, ..) in &mut rows {
+        for number in clocks_of(record) {
+            match (*number).cmp(&u64::from(clock)) {
+                Ordering::Less => {}
+                Ordering::Equal => return None,
+                Ordering::Greater => *number -= 1,
+            }
+        }
+    }
+    if let Case::Step { ticks, .. } = &mut case {
+        let below = (1 << clock) - 1;
+        if *ticks >> clock & 1 == 1 {
+            return None;
+        }
+        *ticks = *ticks & below | *ticks >> 1 & !below;
+    }
+    Some(with_rows(&case, &rows))
+}
+
+fn clocks_without(clocks: Clocks, clock: u32) -> Clocks {
+    let less = |count: u32| if clock < count { count - 1 } else { count };
+    Clocks {
+        named: less(clocks.named),
+        count: less(clocks.count),
+    }
+}
+
+/// The numbers of the clocks that a record names.
+fn clocks_of(record: &mut Record) -> Vec<&mut u64> {
+    let Record {
+        kind,
+        defined,
+        first,
+        second,
+        ..
+    } = record;
+    match kind {
+        Kind::Empty => vec![],
+        Kind::Await => vec![defined, first],
+        kind if defines(*kind) => vec![defined, first, second],
+        _ => vec![first, second],
+    }
 }
 
 /// The configurations with one word made 0.
@@ -293,29 +419,25 @@ fn zeroed(words: &Configuration) -> impl Iterator<Item = Configuration> + '_ {
     })
 }
 
-fn with_place(case: &Case, clocks: u32, first: Configuration, second: Configuration) -> Case {
-    let records = records(case).to_vec();
-    match case {
-        Case::Search { depth, .. } => Case::Search {
-            records,
-            clocks,
-            first,
-            second,
-            depth: *depth,
-        },
-        _ => Case::Place {
-            records,
-            clocks,
-            first,
-            second,
-        },
+fn with_step(case: &Case, new_words: Configuration, new_ticks: u32) -> Case {
+    let mut case = case.clone();
+    if let Case::Step { words, ticks, .. } = &mut case {
+        (*words, *ticks) = (new_words, new_ticks);
     }
+    case
+}
+
+fn with_place(case: &Case, one: Configuration, other: Configuration) -> Case {
+    let mut case = case.clone();
+    if let Case::Place { first, second, .. } | Case::Search { first, second, .. } = &mut case {
+        (*first, *second) = (one, other);
+    }
+    case
 }
 
 #[cfg(test)]
 mod tests {
     use super::*;
-    use second_opinion::Kind;
 
     #[test]
     fn a_text_shrinks_to_what_is_needed() {
@@ -324,6 +446,68 @@ mod tests {
             shorter_text(b"a = b\nc clockDef a lub b\nb # c\n", &wanted),
             b"lub"
         );
+    }
+
+    #[test]
+    fn parentheses_are_taken_out_in_pairs() {
+        let table = b"a = b\n((a lub b) upto (await 2 c)) precedes d\n";
+        let wanted = |text: &[u8]| {
+            let read = second_opinion::read_table(text);
+            Some(read.is_ok_and(|table| table.records.iter().any(|r| r.kind == Kind::Await)))
+        };
+        let left = shorter_table(table, &wanted);
+        assert_eq!(left, b"(await 2 c)precedes d", "{}", left.escape_ascii());
+    }
+
+    #[test]
+    fn counts_shrink_with_the_numbers_of_the_clocks() {
+        let record = |kind, defined, first, second| Record {
+            kind,
+            defined,
+            first,
+            second,
+            number: 0,
+            line: 0,
+        };
+        let case = |named, count, records, ticks| Case::Step {
+            records,
+            clocks: Clocks { named, count },
+            words: [0; WORDS],
+            ticks,
+        };
+        let long = case(
+            9,
+            20,
+            vec![
+                record(Kind::Lub, 11, 3, 7),
+                record(Kind::Excludes, 0, 11, 4),
+            ],
+            1 << 3 | 1 << 4 | 1 << 7,
+        );
+        let asked = |case: &Case| {
+            let Case::Step {
+                records,
+                clocks: Clocks { named, count },
+                words,
+                ticks,
+            } = case
+            else {
+                return false;
+            };
+            let mut words = *words;
+            let (named, count) = ((*named).into(), (*count).into());
+            let answer = second_opinion::step(records, named, count, &mut words, *ticks);
+            let implicit = records.last().is_some_and(|record| record.first >= named);
+            implicit && answer == second_opinion::StepAnswer::Violated(2)
+        };
+        let short = case(
+            2,
+            3,
+            vec![record(Kind::Lub, 2, 0, 1), record(Kind::Excludes, 0, 2, 0)],
+            0b11,
+        );
+        let found = smallest(&long, &asked);
+        assert!(found == short, "{found}");
     }
 
     #[test]
@@ -344,7 +528,7 @@ mod tests {
                 record(Kind::Lub, 2),
                 record(Kind::Glb, 3),
             ],
-            clocks: 40,
+            clocks: Clocks::all_named(40),
             words,
             ticks: 7,
         };
@@ -374,7 +558,7 @@ mod tests {
             smallest(&case, &differs)
                 == Case::Step {
                     records: vec![glb],
-                    clocks: 0,
+                    clocks: Clocks::all_named(0),
                     words: left,
                     ticks: 2
                 }

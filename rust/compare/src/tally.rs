@@ -1,15 +1,15 @@
 //! What a comparison has met, counted.
 
-use crate::case::Answer;
+use crate::case::{Answer, Case};
 use crate::generate::{Group, GROUPS};
 use second_opinion::{SamePlace, StepAnswer, Verdict};
 use std::collections::BTreeMap;
 use std::fmt;
 
-/// Every refusal number of document 01.
-pub const REFUSALS: [u64; 26] = [
-    10, 11, 12, 13, 14, 15, 16, 17, 18, 30, 31, 32, 33, 34, 35, 36, 37, 40, 41, 42, 43, 44, 51, 59,
-    60, 61,
+/// Every refusal number of documents 01 and 02, as far as its requests were carried out.
+pub const REFUSALS: [u64; 28] = [
+    10, 11, 12, 13, 14, 15, 16, 17, 18, 19, 20, 30, 31, 32, 33, 34, 35, 36, 37, 40, 41, 42, 43, 44,
+    51, 59, 60, 61,
 ];
 
 /// Counts of what came up.
@@ -24,11 +24,47 @@ pub struct Tally {
     steps: u64,
     /// Accepted steps of the longest run that was accepted whole.
     longest: u64,
+    nested: Nested,
+}
+
+/// Counts of what came up with implicit clocks.
+#[derive(Clone, Copy, Debug, Default)]
+pub struct Nested {
+    /// Tables that were read.
+    pub tables: u64,
+    /// Runs by a table that was read.
+    pub runs: u64,
+    /// Accepted steps of those runs.
+    pub steps_of_runs: u64,
+    /// Single steps that were accepted.
+    pub steps: u64,
+}
+
+impl Nested {
+    fn count(&mut self, case: &Case, answer: &Answer) {
+        match (case, answer) {
+            (_, Answer::Read(Ok(read))) if read.counts.named < read.counts.count => {
+                self.tables += 1;
+            }
+            (Case::Run { table, .. }, Answer::Run(report))
+                if table.contains(&b'(') && report.constraints > 0 =>
+            {
+                self.runs += 1;
+                self.steps_of_runs += report.steps;
+            }
+            (Case::Step { clocks, .. }, Answer::Step(StepAnswer::Accepted, _))
+                if clocks.named < clocks.count =>
+            {
+                self.steps += 1;
+            }
+            _ => {}
+        }
+    }
 }
 
 impl Tally {
     /// Counts a pair of equal answers.
-    pub fn count(&mut self, group: Group, answer: &Answer) {
+    pub fn count(&mut self, group: Group, case: &Case, answer: &Answer) {
         self.groups[GROUPS
             .iter()
             .position(|(_, other)| *other == group)
@@ -37,6 +73,7 @@ impl Tally {
         if let Some(refusal) = answer.refusal() {
             *self.refusals.entry(refusal.number).or_default() += 1;
         }
+        self.nested.count(case, answer);
         if let Answer::Run(report) = answer {
             self.steps += report.steps;
             if report.verdict == Verdict::Accepted {
@@ -58,6 +95,11 @@ impl Tally {
     /// Accepted steps of the longest run that was accepted whole.
     pub fn longest(&self) -> u64 {
         self.longest
+    }
+
+    /// What came up with implicit clocks.
+    pub fn nested(&self) -> Nested {
+        self.nested
     }
 
     /// The refusal numbers that never came up.
@@ -106,6 +148,15 @@ impl fmt::Display for Tally {
             "  {:<20} {:>9}\n  {:<20} {:>9}",
             "steps of runs", self.steps, "longest accepted run", self.longest
         )?;
+        writeln!(f, "with implicit clocks:")?;
+        for (words, count) in [
+            ("tables read", self.nested.tables),
+            ("runs", self.nested.runs),
+            ("steps of runs", self.nested.steps_of_runs),
+            ("steps accepted", self.nested.steps),
+        ] {
+            writeln!(f, "  {words:<20} {count:>9}")?;
+        }
         writeln!(f, "refusals:")?;
         for number in REFUSALS {
             writeln!(

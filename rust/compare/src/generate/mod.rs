@@ -1,6 +1,7 @@
 //! Random questions, in groups.
 
 pub mod damage;
+pub mod nested;
 pub mod recording_limits;
 pub mod recordings;
 pub mod records;
@@ -19,7 +20,7 @@ use tables::Size;
 pub enum Group {
     /// Reading a table without faults.
     Table,
-    /// A table at the limits 10 to 18, read or run.
+    /// A table at the limits 10 to 20, read or run.
     TableLimits,
     /// A table that is damaged, read or run.
     DamagedTable,
@@ -47,18 +48,18 @@ pub enum Group {
 
 /// The groups, and how often each comes up.
 pub const GROUPS: [(usize, Group); 13] = [
-    (500, Group::Table),
-    (1300, Group::TableLimits),
-    (800, Group::DamagedTable),
-    (1500, Group::ShortRun),
-    (150, Group::MediumRun),
+    (600, Group::Table),
+    (1600, Group::TableLimits),
+    (1000, Group::DamagedTable),
+    (1800, Group::ShortRun),
+    (180, Group::MediumRun),
     (20, Group::LongRun),
     (1900, Group::RecordingLimits),
     (20, Group::RecordingLength),
     (1200, Group::DamagedRecording),
-    (500, Group::Start),
-    (1500, Group::Step),
-    (800, Group::SamePlace),
+    (600, Group::Start),
+    (1900, Group::Step),
+    (1000, Group::SamePlace),
     (310, Group::SamePlaceBySearch),
 ];
 
@@ -114,10 +115,7 @@ fn table_and_recording(
     plan: fn(&mut Random) -> Plan,
 ) -> (Vec<u8>, Table, Recording) {
     let text = any_table(random);
-    let table = second_opinion::read_table(&text).unwrap_or(Table {
-        records: Vec::new(),
-        names: Vec::new(),
-    });
+    let table = second_opinion::read_table(&text).unwrap_or_default();
     let plan = plan(random);
     let recording = recordings::recording(random, &table, plan);
     (text, table, recording)
@@ -161,10 +159,7 @@ fn read_or_run(random: &mut Random, text: Vec<u8>) -> Case {
     if random.once_in(2) {
         return Case::Read { text };
     }
-    let table = second_opinion::read_table(&text).unwrap_or(Table {
-        records: Vec::new(),
-        names: Vec::new(),
-    });
+    let table = second_opinion::read_table(&text).unwrap_or_default();
     let plan = Plan::small(random);
     let recording = recordings::recording(random, &table, plan).write(random);
     Case::Run {

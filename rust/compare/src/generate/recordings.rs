@@ -1,9 +1,9 @@
 //! Random recordings of a table's clocks, which the table accepts for long.
 
 use super::tables::{digits, Word};
-use super::ticks;
+use super::ticks::Judged;
 use crate::random::Random;
-use second_opinion::{judge, start_word, Table};
+use second_opinion::{start_word, Table};
 
 /// A recording as words: the commands of the header, the last of which is `$enddefinitions $end`,
 /// and the body.
@@ -11,7 +11,7 @@ use second_opinion::{judge, start_word, Table};
 pub struct Recording {
     pub header: Vec<Vec<Word>>,
     pub body: Vec<Word>,
-    /// The ids of the table's clocks in the order of their numbers, then those of the ignored
+    /// The ids of the table's named clocks in the order of their numbers, then those of the ignored
     /// variables.
     pub ids: Vec<Word>,
     /// How many of the ids belong to clocks of the table.
@@ -211,7 +211,7 @@ impl Times {
 
 /// Steps that hold, one after another, and one that fails where the plan has it.
 fn body(random: &mut Random, table: &Table, plan: Plan, recording: &mut Recording) {
-    let clocks = table.names.len() as u32;
+    let judged = Judged::new(&table.records, table.named as u32);
     let mut words: Vec<i64> = table.records.iter().map(start_word).collect();
     let mut times = Times::any(random);
     let plain = random.once_in(2);
@@ -221,7 +221,7 @@ fn body(random: &mut Random, table: &Table, plan: Plan, recording: &mut Recordin
         let set = if resting {
             0
         } else {
-            ticks::holding(random, &table.records, &words, clocks)
+            judged.holding(random, &words)
         };
         if set == 0 && !times.every {
             continue;
@@ -236,27 +236,23 @@ fn body(random: &mut Random, table: &Table, plan: Plan, recording: &mut Recordin
         }
         left -= bytes;
         recording.body.extend(step);
-        for (word, record) in words.iter_mut().zip(&table.records) {
-            *word = judge(record, *word, set).1;
-        }
+        judged.step(&mut words, set);
     }
     if plan.violated {
-        violation(random, table, &words, &mut times, recording, plain);
+        if let Some(set) = judged.failing(random, &words) {
+            violation(random, set, &mut times, recording, plain);
+        }
     }
 }
 
 /// A step that fails, and perhaps something behind it, which is not read.
 fn violation(
     random: &mut Random,
-    table: &Table,
-    words: &[i64],
+    set: u32,
     times: &mut Times,
     recording: &mut Recording,
     plain: bool,
 ) {
-    let Some(set) = ticks::failing(random, &table.records, words, table.names.len() as u32) else {
-        return;
-    };
     let Some(time) = times.take(random) else {
         return;
     };

@@ -1,10 +1,12 @@
 //! Records, configurations and tick sets for start words, the single step and the same-place
 //! question, mostly such as are not refused.
 
-use super::ticks;
+use super::tables::{self, Size};
+use super::ticks::{self, Judged};
 use crate::case::Case;
 use crate::monitors::{defines, KINDS};
 use crate::random::Random;
+use ccsl::Clocks;
 use second_opinion::{Configuration, Kind, Record, WORDS};
 
 const MILLION: i64 = 1_000_000;
@@ -26,7 +28,7 @@ const CLOCKS: [u64; 13] = [
     u64::MAX,
 ];
 
-/// Clock counts at which something could go wrong.
+/// Counts of clocks, named or all, at which something could go wrong.
 const COUNTS: [u32; 13] = [
     0,
     1,
@@ -46,7 +48,7 @@ const COUNTS: [u32; 13] = [
 /// Records over a number of clocks, well formed.
 struct Material {
     records: Vec<Record>,
-    clocks: u32,
+    clocks: Clocks,
 }
 
 /// A question about start words.
@@ -68,16 +70,17 @@ pub fn step(random: &mut Random) -> Case {
         mut clocks,
     } = Material::any(random);
     let mut words = configuration(random, &records, word);
+    let judged = Judged::new(&records, clocks.named);
     let mut set = match random.below(10) {
-        0..=5 => ticks::holding(random, &records, &words, clocks),
-        6 | 7 => ticks::failing(random, &records, &words, clocks).unwrap_or(0),
-        _ => ticks::any(random, clocks),
+        0..=5 => judged.holding(random, &words),
+        6 | 7 => judged.failing(random, &words).unwrap_or(0),
+        _ => ticks::any(random, clocks.named),
     };
     while random.once_in(4) {
         match random.below(5) {
             0 | 1 => spoil_records(random, &mut records, &mut clocks),
             2 | 3 => spoil_words(random, &records, &mut words),
-            _ => set |= 1 << random.within(clocks.min(31) as usize..=31),
+            _ => set |= 1 << bit_above(random, clocks),
         }
     }
     Case::Step {
@@ -85,6 +88,17 @@ pub fn step(random: &mut Random) -> Case {
         clocks,
         words,
         ticks: set,
+    }
+}
+
+/// 61: a bit at or above the named count, mostly an implicit clock's where there is one.
+fn bit_above(random: &mut Random, clocks: Clocks) -> usize {
+    let lowest = clocks.named.min(31) as usize;
+    let highest = clocks.count.saturating_sub(1).min(31) as usize;
+    if lowest <= highest && !random.once_in(3) {
+        random.within(lowest..=highest)
+    } else {
+        random.within(lowest..=31)
     }
 }
 
@@ -122,7 +136,16 @@ pub fn place(random: &mut Random) -> Case {
 /// A question about two configurations of few clocks and small words, whose continuations can all
 /// be looked at.
 pub fn search(random: &mut Random) -> Case {
-    let clocks = random.within(2..=5) as u32;
+    let named = random.within(2..=5) as u32;
+    let implicit = if random.once_in(3) {
+        random.within(1..=2) as u32
+    } else {
+        0
+    };
+    let clocks = Clocks {
+        named,
+        count: named + implicit,
+    };
     let count = random.within(1..=3);
     let Material { mut records, .. } = Material::of(random, clocks, count);
     for record in &mut records {
@@ -146,13 +169,26 @@ pub fn search(random: &mut Random) -> Case {
 }
 
 impl Material {
-    /// Mostly few records over few clocks.
+    /// Mostly few records over few clocks, some of them often implicit; sometimes those of a table.
     fn any(random: &mut Random) -> Material {
-        let clocks = match random.below(12) {
+        if random.once_in(10) {
+            return Material::of_table(random);
+        }
+        let named = match random.below(12) {
             0 => random.within(0..=2),
             1 | 2 => random.within(6..=32),
             3 => 32,
             _ => random.within(2..=5),
+        };
+        let implicit = match random.below(12) {
+            0 | 1 => random.within(1..=3),
+            2 => random.within(1..=10),
+            3 => 32 - named,
+            _ => 0,
+        };
+        let clocks = Clocks {
+            named: named as u32,
+            count: (named + implicit).min(32) as u32,
         };
         let count = match random.below(20) {
             0 => 0,
@@ -160,37 +196,66 @@ impl Material {
             2 | 3 => random.within(6..=64),
             _ => random.within(1..=5),
         };
-        Material::of(random, clocks as u32, count)
+        Material::of(random, clocks, count)
     }
 
-    fn of(random: &mut Random, clocks: u32, count: usize) -> Material {
+    /// The records of a nested table.
+    fn of_table(random: &mut Random) -> Material {
+        let size = Size::any(random).nested(random);
+        let text = tables::text(random, size);
+        let table = second_opinion::read_table(&text).unwrap_or_default();
+        Material {
+            records: table.records,
+            clocks: Clocks {
+                named: table.named as u32,
+                count: table.clocks as u32,
+            },
+        }
+    }
+
+    fn of(random: &mut Random, clocks: Clocks, count: usize) -> Material {
         let mut records: Vec<Record> = Vec::new();
+        let mut defined = Vec::new();
         while records.len() < count {
-            let record = record(random, clocks);
-            let again = |other: &Record| {
-                defines(other.kind) && defines(record.kind) && other.defined == record.defined
-            };
-            if !records.iter().any(again) {
-                records.push(record);
+            let record = record(random, clocks, &defined);
+            if defines(record.kind) {
+                if defined.contains(&record.defined) {
+                    continue;
+                }
+                defined.push(record.defined);
             }
+            records.push(record);
         }
         Material { records, clocks }
     }
 }
 
-/// A record over different clocks, with anything where its kind names nothing.
-fn record(random: &mut Random, clocks: u32) -> Record {
-    let mut order: Vec<u64> = (0..u64::from(clocks)).collect();
+/// A record over different clocks, with anything where its kind names nothing. It uses an implicit
+/// clock only where it is among those that are defined above, and defines often one that is not.
+fn record(random: &mut Random, clocks: Clocks, defined: &[u64]) -> Record {
+    let is_named = |clock: &u64| *clock < u64::from(clocks.named);
+    let (mut order, waiting): (Vec<u64>, Vec<u64>) =
+        (0..u64::from(clocks.count)).partition(|clock| is_named(clock) || defined.contains(clock));
     random.shuffle(&mut order);
-    let most = match clocks {
-        0 | 1 => 1,
-        2 => 7,
-        _ => KINDS.len(),
-    };
-    let mut kind = KINDS[random.below(most)];
-    if clocks == 2 && kind == Kind::Union {
-        kind = Kind::Await;
+    let kinds: Vec<Kind> = KINDS
+        .into_iter()
+        .filter(|kind| match kind {
+            Kind::Empty => true,
+            Kind::Await => !order.is_empty() && clocks.count > 1,
+            kind if defines(*kind) => order.len() > 1 && clocks.count > 2,
+            _ => order.len() > 1,
+        })
+        .collect();
+    let mut kind = random.pick(&kinds);
+    while !waiting.is_empty() && !defines(kind) && random.once_in(2) {
+        kind = random.pick(&kinds);
     }
+    let others: Vec<u64> = order
+        .iter()
+        .skip(2)
+        .copied()
+        .chain(waiting.clone())
+        .collect();
     let number = match kind {
         Kind::Await => random.pick(&[1, 1, 2, 2, 3, 10, 999_999, 1_000_000]),
         _ => free(random),
@@ -204,10 +269,11 @@ fn record(random: &mut Random, clocks: u32) -> Record {
             order[0]
         },
         second: if pair { order[1] } else { free(random) },
-        defined: if defines(kind) {
-            order[order.len() - 1]
-        } else {
-            free(random)
+        defined: match kind {
+            kind if !defines(kind) => free(random),
+            _ if !waiting.is_empty() && !random.once_in(4) => random.pick(&waiting),
+            Kind::Await if others.is_empty() => order[1],
+            _ => random.pick(&others),
         },
         number,
         line: free(random),
@@ -268,10 +334,9 @@ fn small_word(random: &mut Random, record: &Record) -> i64 {
 }
 
 /// 59 and its other side.
-fn spoil_records(random: &mut Random, records: &mut Vec<Record>, clocks: &mut u32) {
-    if records.is_empty() || random.once_in(8) {
-        *clocks = random.pick(&COUNTS);
-        return;
+fn spoil_records(random: &mut Random, records: &mut Vec<Record>, clocks: &mut Clocks) {
+    if records.is_empty() || random.once_in(5) {
+        return spoil_counts(random, clocks);
     }
     if random.once_in(8) {
         let many = random.pick(&[63, 64, 65, 66, 67, 70, 200]);
@@ -285,9 +350,13 @@ fn spoil_records(random: &mut Random, records: &mut Vec<Record>, clocks: &mut u3
         );
     }
     let (place, other) = (random.below(records.len()), random.below(records.len()));
+    if random.once_in(6) {
+        return spoil_order(random, records, place, other);
+    }
     let at_edge = [
-        u64::from(*clocks),
-        u64::from(*clocks) + 1,
+        u64::from(clocks.named),
+        u64::from(clocks.count),
+        u64::from(clocks.count) + 1,
         random.pick(&CLOCKS),
     ];
     let defined = records[other].defined;
@@ -304,6 +373,29 @@ fn spoil_records(random: &mut Random, records: &mut Vec<Record>, clocks: &mut u3
                 random.pick(&[0, 1, 1_000_000, 1_000_001, 1 << 32, (1 << 32) + 1, u64::MAX])
         }
         _ => record.defined = defined,
+    }
+}
+
+/// Another number of clocks, or of named ones, also more than there are.
+fn spoil_counts(random: &mut Random, clocks: &mut Clocks) {
+    match random.below(8) {
+        0 | 1 => *clocks = Clocks::all_named(random.pick(&COUNTS)),
+        2 => clocks.count = random.pick(&COUNTS),
+        3 => clocks.named = random.pick(&COUNTS),
+        4 => clocks.named = clocks.count.saturating_add(1),
+        5 => clocks.named = clocks.named.saturating_add(1),
+        6 => clocks.named = clocks.named.saturating_sub(1),
+        _ => clocks.named = random.below(clocks.count.min(32) as usize + 1) as u32,
+    }
+}
+
+/// Two records change places, or one is gone, so that a definition may stand below its use or
+/// nowhere.
+fn spoil_order(random: &mut Random, records: &mut Vec<Record>, place: usize, other: usize) {
+    match random.below(3) {
+        0 => records.swap(place, other),
+        1 => records[place].kind = Kind::Empty,
+        _ => drop(records.remove(place)),
     }
 }
 

@@ -1,13 +1,18 @@
-//! Tables at both sides of the limits 10 to 18.
+//! Tables at both sides of the limits 10 to 20.
 
-use super::tables::{digits, lines, name_of_length, Lines, Size, Word, FORM_WORDS};
+use super::nested::{closer, depths, is_parenthesis, nest, nest_deepest, opener, pairs};
+use super::tables::{digits, lines, name_of_length, names_in, Lines, Size, Word, FORM_WORDS};
 use crate::random::Random;
 
 /// A fault, or something that is just no fault, put into the lines of a table.
 type Spoil = fn(&mut Random, &mut Lines);
 
-const SPOILS: [(usize, Spoil); 8] = [
+const SPOILS: [(usize, Spoil); 12] = [
     (6, shape),
+    (2, pair_around),
+    (1, inner_relation),
+    (3, without_partner),
+    (3, deep),
     (3, long_name),
     (4, await_number),
     (4, named_twice),
@@ -63,7 +68,7 @@ fn any_word(random: &mut Random) -> Word {
         3 => random
             .pick(&[
                 "=", "#", "==", "a=b", "a#", "1a", "_a", "a-b", "a_", "A9", "Lub", "LUB", "await2",
-                "(", "~", "-1", "+1", "1.0",
+                "(", ")", "()", "(a)", "~", "-1", "+1", "1.0",
             ])
             .as_bytes()
             .to_vec(),
@@ -76,17 +81,6 @@ fn any_word(random: &mut Random) -> Word {
     }
 }
 
-/// The places of the names in a line.
-fn names_in(line: &[Word]) -> Vec<usize> {
-    let is_name = |word: &Word| {
-        word.first().is_some_and(u8::is_ascii_alphabetic)
-            && !FORM_WORDS.iter().any(|form| form.as_bytes() == word)
-    };
-    (0..line.len())
-        .filter(|place| is_name(&line[*place]))
-        .collect()
-}
-
 /// A line that is not blank, if there is one.
 fn some_line<'a>(random: &mut Random, lines: &'a mut Lines) -> Option<&'a mut Vec<Word>> {
     let places: Vec<usize> = (0..lines.0.len())
@@ -97,6 +91,113 @@ fn some_line<'a>(random: &mut Random, lines: &'a mut Lines) -> Option<&'a mut Ve
     }
     let place = random.pick(&places);
     Some(&mut lines.0[place])
+}
+
+/// A line that is not blank, if there is one, with some operands in parentheses.
+fn some_nested_line<'a>(random: &mut Random, lines: &'a mut Lines) -> Option<&'a mut Vec<Word>> {
+    let names = clocks_of(lines);
+    let line = some_line(random, lines)?;
+    while pairs(line) < 8 && random.once_in(2) {
+        nest(random, line, &names);
+    }
+    Some(line)
+}
+
+/// 12: a pair of parentheses around nothing, a word, the line, what stands behind `clockDef`, what
+/// stands in parentheses already, or any words.
+fn pair_around(random: &mut Random, lines: &mut Lines) {
+    let Some(line) = some_nested_line(random, lines) else {
+        return;
+    };
+    let (one, other) = (random.below(line.len() + 1), random.below(line.len() + 1));
+    let (from, to) = match random.below(6) {
+        0 => (one, one),
+        1 => (one, line.len().min(one + 1)),
+        2 => (0, line.len()),
+        3 => (line.len().min(2), line.len()),
+        4 => group(random, line).unwrap_or((one, one)),
+        _ => (one.min(other), one.max(other)),
+    };
+    line.insert(to, closer());
+    line.insert(from, opener());
+}
+
+/// Where an expression in parentheses begins and ends, if the line has one.
+fn group(random: &mut Random, line: &[Word]) -> Option<(usize, usize)> {
+    let openers: Vec<usize> = (0..line.len())
+        .filter(|place| line[*place] == b"(")
+        .collect();
+    if openers.is_empty() {
+        return None;
+    }
+    let from = random.pick(&openers);
+    let depths = depths(line);
+    let to = (from..line.len()).find(|place| depths[*place] < depths[from])?;
+    Some((from, to + 1))
+}
+
+/// 12: a word of a form that stands in parentheses becomes one of a relation or of a line.
+fn inner_relation(random: &mut Random, lines: &mut Lines) {
+    let Some(line) = some_nested_line(random, lines) else {
+        return;
+    };
+    let depths = depths(line);
+    let is_form_word = |word: &Word| FORM_WORDS.iter().any(|form| form.as_bytes() == word);
+    let places: Vec<usize> = (0..line.len())
+        .filter(|place| depths[*place] > 0 && is_form_word(&line[*place]))
+        .collect();
+    if !places.is_empty() {
+        let words = "= # isSubClockOf precedes clockDef";
+        line[random.pick(&places)] = random.pick_word(words).as_bytes().to_vec();
+    }
+}
+
+/// 20 and its other side: a parenthesis is dropped, added, turned round or put elsewhere.
+fn without_partner(random: &mut Random, lines: &mut Lines) {
+    let Some(line) = some_nested_line(random, lines) else {
+        return;
+    };
+    let places: Vec<usize> = (0..line.len())
+        .filter(|place| is_parenthesis(&line[*place]))
+        .collect();
+    let new = random.pick(&[opener(), closer()]);
+    let at = random.below(line.len() + 1);
+    if places.is_empty() {
+        return line.insert(at, new);
+    }
+    let (one, other) = (random.pick(&places), random.pick(&places));
+    match random.below(4) {
+        0 => drop(line.remove(one)),
+        1 => line[one] = new,
+        2 => line.swap(one, other),
+        _ => line.insert(at, new),
+    }
+}
+
+/// 19 and its other side: a line that is sixteen deep or about that, or parentheses that open
+/// without closing, after some that close without being open.
+fn deep(random: &mut Random, lines: &mut Lines) {
+    let names = clocks_of(lines);
+    let Some(line) = some_line(random, lines) else {
+        return;
+    };
+    if random.once_in(2) {
+        let wanted = random.within(15..=18);
+        while nest_deepest(random, line, &names, wanted) {}
+        return;
+    }
+    let at = random.below(line.len() + 1);
+    let openers = random.pick(&[15, 16, 17, 17, 18, 33]);
+    line.splice(at..at, vec![opener(); openers]);
+    if random.once_in(3) {
+        let behind = random.within(at + openers..=line.len());
+        let closers = openers - random.below(2);
+        line.splice(behind..behind, vec![closer(); closers]);
+    }
+    while random.once_in(2) {
+        let before = random.below(at + 1);
+        line.insert(before, closer());
+    }
 }
 
 /// 13 and its other side: a name of 16 bytes, 17 or more.
@@ -117,7 +218,7 @@ const NUMBERS: &str = "0 1 2 999999 1000000 1000001 1000002 000 01 0001000000 00
     10000000 4294967296 4294967297 18446744073709551616 18446744073709551617 \
     340282366920938463463374607431768211457";
 
-/// 14 and its other side: a line with await and a number at an edge.
+/// 14 and its other side: a line with await and a number at an edge, in parentheses or not.
 fn await_number(random: &mut Random, lines: &mut Lines) {
     let number = match random.below(10) {
         0 => vec![b'9'; random.within(1..=120)],
@@ -128,18 +229,27 @@ fn await_number(random: &mut Random, lines: &mut Lines) {
         .concat(),
         _ => random.pick_word(NUMBERS).as_bytes().to_vec(),
     };
-    let line = vec![
-        name_of_length(random, 5),
-        b"clockDef".to_vec(),
-        b"await".to_vec(),
-        number,
-        name_of_length(random, 4),
-    ];
+    let (a, b) = (name_of_length(random, 4), name_of_length(random, 5));
+    let awaited = vec![b"await".to_vec(), number, a];
+    let inner = [vec![opener()], awaited.clone(), vec![closer()]].concat();
+    let (name, definition) = (vec![b], vec![b"clockDef".to_vec()]);
+    let mut line = match random.below(6) {
+        0 => [inner, vec![b"#".to_vec()], name].concat(),
+        1 => [name, vec![b"precedes".to_vec()], inner].concat(),
+        2 => {
+            let again = vec![b"await".to_vec(), b"2".to_vec()];
+            [name, definition, again, inner].concat()
+        }
+        _ => [name, definition, awaited].concat(),
+    };
+    if random.once_in(4) {
+        nest(random, &mut line, &clocks_of(lines));
+    }
     let place = random.below(lines.0.len() + 1);
     lines.0.insert(place, line);
 }
 
-/// 15: a clock stands twice in a line.
+/// 15: a clock stands twice in a line, at any depths.
 fn named_twice(random: &mut Random, lines: &mut Lines) {
     let Some(line) = some_line(random, lines) else {
         return;
@@ -156,7 +266,8 @@ fn defined_twice(random: &mut Random, lines: &mut Lines) {
     let Some(line) = some_line(random, lines) else {
         return;
     };
-    let defined = line[0].clone();
+    let first = names_in(line).first().copied().unwrap_or(0);
+    let defined = line[first].clone();
     let (a, b) = (name_of_length(random, 2), name_of_length(random, 3));
     let again = match random.below(4) {
         0 => vec![
@@ -187,13 +298,27 @@ fn clocks_of(lines: &Lines) -> Vec<Word> {
     names
 }
 
-/// 17 and its other side: relations of new clocks, up to 31 clocks or more; the last line may bring
-/// two or three.
+/// The pairs of parentheses in the lines.
+fn pairs_of(lines: &Lines) -> usize {
+    lines.0.iter().map(|line| pairs(line)).sum()
+}
+
+/// 17 and its other side: relations of new clocks, and implicit ones, up to 31 clocks or more; the
+/// last line may bring two or three.
 fn many_clocks(random: &mut Random, lines: &mut Lines) {
     let wanted = random.within(30..=34);
-    let mut count = clocks_of(lines).len();
+    let count_of = |lines: &Lines| clocks_of(lines).len() + pairs_of(lines);
+    let mut count = count_of(lines);
     let new = |number: usize| format!("Q{number}").into_bytes();
+    let nesting = random.once_in(3);
     while count < wanted {
+        if nesting && !random.once_in(4) {
+            let names = clocks_of(lines);
+            if some_line(random, lines).is_some_and(|line| nest(random, line, &names)) {
+                count += 1;
+                continue;
+            }
+        }
         let line = match random.below(3) {
             0 => vec![new(count), b"#".to_vec(), new(count + 1)],
             1 => vec![
@@ -210,11 +335,12 @@ fn many_clocks(random: &mut Random, lines: &mut Lines) {
             ],
         };
         lines.0.push(line);
-        count = clocks_of(lines).len();
+        count = count_of(lines);
     }
 }
 
-/// 18 and its other side: 63 to 66 constraints, some lines being blank.
+/// 18 and its other side: 63 to 66 constraints, those of implicit clocks included, some lines being
+/// blank.
 fn many_constraints(random: &mut Random, lines: &mut Lines) {
     let wanted = random.within(63..=66);
     let old: Vec<Vec<Word>> = lines
@@ -223,7 +349,16 @@ fn many_constraints(random: &mut Random, lines: &mut Lines) {
         .filter(|line| line.len() == 3)
         .cloned()
         .collect();
-    while lines.0.iter().filter(|line| !line.is_empty()).count() < wanted {
+    let names = clocks_of(lines);
+    if random.once_in(3) {
+        for _ in 0..random.below(24) {
+            if let Some(line) = some_line(random, lines) {
+                nest(random, line, &names);
+            }
+        }
+    }
+    let implicit = pairs_of(lines);
+    while lines.0.iter().filter(|line| !line.is_empty()).count() + implicit < wanted {
         let line = if old.is_empty() {
             vec![b"a".to_vec(), b"#".to_vec(), b"b".to_vec()]
         } else {

@@ -1,5 +1,6 @@
 //! Random tables that are read without a refusal.
 
+use super::nested::{is_parenthesis, nest};
 use crate::monitors::{defines, KINDS};
 use crate::random::Random;
 use second_opinion::{Kind, Record};
@@ -7,7 +8,7 @@ use second_opinion::{Kind, Record};
 /// A word of a text.
 pub type Word = Vec<u8>;
 
-/// A table as lines of words; a line without words is blank.
+/// A table as lines of words, each parenthesis being one; a line without words is blank.
 #[derive(Clone, Debug, Default)]
 pub struct Lines(pub Vec<Vec<Word>>);
 
@@ -29,33 +30,49 @@ pub const FORM_WORDS: [&str; 11] = [
 const LETTERS: &[u8] = b"abcdefghijklmnopqrstuvwxyzABCDEFGHIJKLMNOPQRSTUVWXYZ";
 const NAME_BYTES: &[u8] = b"abcdefghijklmnopqrstuvwxyzABCDEFGHIJKLMNOPQRSTUVWXYZ0123456789_";
 
-/// How large a table is: clocks to choose from, constraints.
+/// How large a table is: named clocks to choose from, lines, implicit clocks.
 #[derive(Clone, Copy, Debug)]
 pub struct Size {
     pub clocks: usize,
     pub constraints: usize,
+    pub implicit: usize,
 }
 
 impl Size {
-    /// Mostly small, sometimes as large as a table may be.
+    /// Mostly small, sometimes as large as a table may be; mostly without implicit clocks.
     pub fn any(random: &mut Random) -> Size {
-        match random.below(40) {
-            0 => Size {
-                clocks: 2,
-                constraints: 0,
-            },
-            1..=29 => Size {
-                clocks: random.within(2..=5),
-                constraints: random.within(1..=4),
-            },
-            30..=37 => Size {
-                clocks: random.within(3..=12),
-                constraints: random.within(4..=16),
-            },
-            _ => Size {
-                clocks: random.within(8..=32),
-                constraints: random.within(16..=64),
-            },
+        let (clocks, constraints) = match random.below(40) {
+            0 => (2, 0),
+            1..=29 => (random.within(2..=5), random.within(1..=4)),
+            30..=37 => (random.within(3..=12), random.within(4..=16)),
+            _ => (random.within(8..=32), random.within(16..=64)),
+        };
+        let flat = Size {
+            clocks,
+            constraints,
+            implicit: 0,
+        };
+        if random.once_in(5) {
+            flat.nested(random)
+        } else {
+            flat
+        }
+    }
+
+    /// Some clocks more, so that there is something to nest, and implicit ones, as far as a table
+    /// may have so many.
+    pub fn nested(self, random: &mut Random) -> Size {
+        let clocks = (self.clocks + random.within(1..=4)).min(32);
+        let implicit = match random.below(8) {
+            0..=4 => random.within(1..=3),
+            5 | 6 => random.within(4..=10),
+            _ => random.within(10..=26),
+        };
+        let room = (32 - clocks).min(64 - self.constraints);
+        Size {
+            clocks,
+            implicit: implicit.min(room),
+            ..self
         }
     }
 }
@@ -68,10 +85,23 @@ pub fn lines(random: &mut Random, size: Size) -> (Lines, Vec<Word>) {
         .iter()
         .map(|record| words(random, record, &names))
         .collect();
+    nest_some(random, &mut lines, &names, size.implicit);
     while random.once_in(4) {
         lines.insert(random.below(lines.len() + 1), Vec::new());
     }
     (Lines(lines), names)
+}
+
+/// So many operands of the lines become expressions in parentheses, of all lines or of one.
+fn nest_some(random: &mut Random, lines: &mut [Vec<Word>], names: &[Word], times: usize) {
+    if lines.is_empty() {
+        return;
+    }
+    let one = random.once_in(2).then(|| random.below(lines.len()));
+    for _ in 0..times {
+        let place = one.unwrap_or_else(|| random.below(lines.len()));
+        nest(random, &mut lines[place], names);
+    }
 }
 
 /// A random table's text, of at most 4,096 bytes.
@@ -213,6 +243,39 @@ pub fn words(random: &mut Random, record: &Record, names: &[Word]) -> Vec<Word> 
     }
 }
 
+/// The words of a right side of clockDef with a name and, as far as there is one, another.
+pub fn right_side(random: &mut Random, name: &Word, other: Option<Word>) -> Vec<Word> {
+    let kinds: Vec<Kind> = KINDS.into_iter().filter(|kind| defines(*kind)).collect();
+    let kind = if other.is_some() {
+        random.pick(&kinds)
+    } else {
+        Kind::Await
+    };
+    let first = if other.is_some() { random.below(2) } else { 0 };
+    let record = Record {
+        kind,
+        defined: 0,
+        first: first as u64,
+        second: 1 - first as u64,
+        number: await_number(random),
+        line: 0,
+    };
+    let names = [name.clone(), other.unwrap_or_default()];
+    let line = words(random, &record, &names);
+    line[2..].to_vec()
+}
+
+/// The places of the names in a line.
+pub fn names_in(line: &[Word]) -> Vec<usize> {
+    let is_name = |word: &Word| {
+        word.first().is_some_and(u8::is_ascii_alphabetic)
+            && !FORM_WORDS.iter().any(|form| form.as_bytes() == word)
+    };
+    (0..line.len())
+        .filter(|place| is_name(&line[*place]))
+        .collect()
+}
+
 /// The digits of a number, sometimes with zeros before them.
 pub fn digits(random: &mut Random, number: u64) -> Word {
     let zeros = if random.once_in(8) {
@@ -223,16 +286,28 @@ pub fn digits(random: &mut Random, number: u64) -> Word {
     [vec![b'0'; zeros], number.to_string().into_bytes()].concat()
 }
 
+/// How the words of a text are parted.
+#[derive(Clone, Copy)]
+struct Style {
+    /// Whether there are more spaces than are needed.
+    wide: bool,
+    /// How many spaces stand beside a parenthesis at least; as it comes where none is given.
+    beside: Option<usize>,
+}
+
 impl Lines {
     /// The text, with spaces as a person would type them, or more.
     pub fn write(&self, random: &mut Random) -> Vec<u8> {
-        let wide = random.once_in(3);
+        let style = Style {
+            wide: random.once_in(3),
+            beside: random.pick(&[Some(0), Some(1), None]),
+        };
         let mut text = Vec::new();
         for (number, line) in self.0.iter().enumerate() {
             if number > 0 {
                 text.push(b'\n');
             }
-            write_line(random, line, wide, &mut text);
+            write_line(random, line, style, &mut text);
         }
         if !random.once_in(3) {
             text.push(b'\n');
@@ -241,10 +316,10 @@ impl Lines {
     }
 }
 
-fn write_line(random: &mut Random, line: &[Word], wide: bool, text: &mut Vec<u8>) {
+fn write_line(random: &mut Random, line: &[Word], style: Style, text: &mut Vec<u8>) {
     let spaces = |random: &mut Random, least: usize| {
         least
-            + if wide && random.once_in(3) {
+            + if style.wide && random.once_in(3) {
                 random.within(1..=3)
             } else {
                 0
@@ -254,7 +329,12 @@ fn write_line(random: &mut Random, line: &[Word], wide: bool, text: &mut Vec<u8>
     text.extend(vec![b' '; before]);
     for (place, word) in line.iter().enumerate() {
         if place > 0 {
-            let between = spaces(random, 1);
+            let least = if is_parenthesis(word) || is_parenthesis(&line[place - 1]) {
+                style.beside.unwrap_or_else(|| random.below(2))
+            } else {
+                1
+            };
+            let between = spaces(random, least);
             text.extend(vec![b' '; between]);
         }
         text.extend(word);

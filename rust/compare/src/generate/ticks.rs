@@ -1,4 +1,5 @@
 //! Tick sets on which all records hold, found by mending random ones; and some on which one fails.
+//! A set has named clocks alone; the ticks of the implicit ones are worked out beside it.
 
 use crate::monitors::defines;
 use crate::random::Random;
@@ -26,90 +27,157 @@ pub fn any(random: &mut Random, clocks: u32) -> u32 {
     set & all(clocks)
 }
 
-/// Whether all records hold on the set.
-pub fn holds(records: &[Record], words: &[i64], ticks: u32) -> bool {
-    records
-        .iter()
-        .zip(words)
-        .all(|(record, word)| judge(record, *word, ticks).0)
+/// Records that limit 59 lets pass, for which sets are looked for.
+pub struct Judged<'a> {
+    records: &'a [Record],
+    named: u32,
+    /// The places of the records that define an implicit clock.
+    implicit: Vec<usize>,
+    /// By record: each named clock that it names or rests on, as a bit; of a definition the defined
+    /// one several times, so that it is mostly the one to change.
+    changes: Vec<Vec<u32>>,
 }
 
-/// A set on which all records hold: a random one, mended; the empty one where that fails several
-/// times.
-pub fn holding(random: &mut Random, records: &[Record], words: &[i64], clocks: u32) -> u32 {
-    for _ in 0..4 {
-        let set = any(random, clocks);
-        if let Some(mended) = mended(random, records, words, set) {
-            if mended != 0 {
-                return mended;
+impl<'a> Judged<'a> {
+    pub fn new(records: &'a [Record], named: u32) -> Judged<'a> {
+        // By clock: itself, or the named clocks that its definition rests on.
+        let mut under: [u32; 32] = std::array::from_fn(|clock| 1 << clock);
+        let mut implicit = Vec::new();
+        let mut changes = Vec::new();
+        for (place, record) in records.iter().enumerate() {
+            let mut clocks = operands(record);
+            if defines(record.kind) && record.defined >= u64::from(named) {
+                let all = clocks.iter().map(|clock| under[*clock as usize]);
+                under[record.defined as usize] = all.fold(0, |set, more| set | more);
+                implicit.push(place);
+            } else if defines(record.kind) {
+                clocks.extend(vec![record.defined; clocks.len() + 1]);
+            }
+            let bits = clocks.iter().map(|clock| bits(under[*clock as usize]));
+            changes.push(bits.flatten().collect());
+        }
+        Judged {
+            records,
+            named,
+            implicit,
+            changes,
+        }
+    }
+
+    /// The set with the implicit clocks that tick beside it.
+    fn completed(&self, words: &[i64], mut set: u32) -> u32 {
+        for place in &self.implicit {
+            let with = set | 1 << self.records[*place].defined;
+            if judge(&self.records[*place], words[*place], with).0 {
+                set = with;
             }
         }
+        set
     }
-    0
-}
 
-/// A set on which some record fails, if one is found.
-pub fn failing(random: &mut Random, records: &[Record], words: &[i64], clocks: u32) -> Option<u32> {
-    for _ in 0..8 {
-        let mut set = holding(random, records, words, clocks);
-        if clocks > 0 {
-            set ^= 1 << random.below(clocks as usize);
-        }
-        if !holds(records, words, set) {
-            return Some(set);
+    /// Whether all records hold on the set.
+    fn holds(&self, words: &[i64], set: u32) -> bool {
+        let ticks = self.completed(words, set);
+        self.records
+            .iter()
+            .zip(words)
+            .all(|(record, word)| judge(record, *word, ticks).0)
+    }
+
+    /// Moves the words by a set on which all records hold.
+    pub fn step(&self, words: &mut [i64], set: u32) {
+        let ticks = self.completed(words, set);
+        for (record, word) in self.records.iter().zip(words) {
+            *word = judge(record, *word, ticks).1;
         }
     }
-    None
-}
 
-/// Goes round the records and mends those that fail, until all hold or it has taken too long.
-fn mended(random: &mut Random, records: &[Record], words: &[i64], mut set: u32) -> Option<u32> {
-    for round in 0..8 {
-        let mut whole = true;
-        for (record, word) in records.iter().zip(words) {
-            if !judge(record, *word, set).0 {
-                whole = false;
-                set = mended_for(random, record, *word, set, round > 3);
+    /// A set on which all records hold: a random one, mended; the empty one where that fails several
+    /// times.
+    pub fn holding(&self, random: &mut Random, words: &[i64]) -> u32 {
+        for _ in 0..4 {
+            let set = any(random, self.named);
+            if let Some(mended) = self.mended(random, words, set) {
+                if mended != 0 {
+                    return mended;
+                }
             }
         }
-        if whole {
-            return Some(set);
-        }
+        0
     }
-    None
+
+    /// A set on which some record fails, if one is found.
+    pub fn failing(&self, random: &mut Random, words: &[i64]) -> Option<u32> {
+        for _ in 0..8 {
+            let mut set = self.holding(random, words);
+            if self.named > 0 {
+                set ^= 1 << random.below(self.named as usize);
+            }
+            if !self.holds(words, set) {
+                return Some(set);
+            }
+        }
+        None
+    }
+
+    /// Goes round the records and mends those that fail, until all hold or it has taken too long.
+    fn mended(&self, random: &mut Random, words: &[i64], mut set: u32) -> Option<u32> {
+        let mut ticks = self.completed(words, set);
+        for round in 0..8 {
+            let mut whole = true;
+            for (place, (record, word)) in self.records.iter().zip(words).enumerate() {
+                if !judge(record, *word, ticks).0 {
+                    whole = false;
+                    set = self.mended_for(random, words, place, set, round > 3);
+                    ticks = self.completed(words, set);
+                }
+            }
+            if whole {
+                return Some(set);
+            }
+        }
+        None
+    }
+
+    /// The set with one clock more or less, so that the record at the place holds; with one less,
+    /// where that is asked for and possible.
+    fn mended_for(
+        &self,
+        random: &mut Random,
+        words: &[i64],
+        place: usize,
+        set: u32,
+        fewer: bool,
+    ) -> u32 {
+        let record = &self.records[place];
+        let mends = |change: &u32| {
+            let ticks = self.completed(words, set ^ change);
+            judge(record, words[place], ticks).0
+        };
+        let changes = self.changes[place].iter().copied();
+        let mut changes: Vec<u32> = changes.filter(mends).collect();
+        if fewer && changes.iter().any(|change| set & change != 0) {
+            changes.retain(|change| set & change != 0);
+        }
+        if changes.is_empty() {
+            return 0;
+        }
+        set ^ random.pick(&changes)
+    }
 }
 
-/// The set with one clock more or less, so that the record holds; with one less, where that is
-/// asked for and possible.
-fn mended_for(random: &mut Random, record: &Record, word: i64, set: u32, fewer: bool) -> u32 {
-    let mends = |change: &u32| judge(record, word, set ^ change).0;
-    let mut changes: Vec<u32> = clocks_of(record)
-        .into_iter()
+/// The bits of a set, each by itself.
+fn bits(set: u32) -> impl Iterator<Item = u32> {
+    (0..32)
         .map(|clock| 1 << clock)
-        .filter(mends)
-        .collect();
-    if fewer && changes.iter().any(|change| set & change != 0) {
-        changes.retain(|change| set & change != 0);
-    }
-    if changes.is_empty() {
-        return 0;
-    }
-    set ^ random.pick(&changes)
+        .filter(move |bit| set & bit != 0)
 }
 
-/// The clocks that the record names; of a definition the defined one several times, so that it is
-/// mostly the one to change.
-fn clocks_of(record: &Record) -> Vec<u64> {
+/// The clocks that the record uses.
+fn operands(record: &Record) -> Vec<u64> {
     match record.kind {
         Kind::Empty => Vec::new(),
-        Kind::Await => vec![record.defined, record.defined, record.first],
-        kind if defines(kind) => vec![
-            record.defined,
-            record.defined,
-            record.defined,
-            record.first,
-            record.second,
-        ],
+        Kind::Await => vec![record.first],
         _ => vec![record.first, record.second],
     }
 }
