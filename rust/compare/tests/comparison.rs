@@ -41,13 +41,26 @@ fn mixed_questions_agree_and_meet_every_refusal_number() {
         );
     }
     assert_eq!(tally.answers("both broke off"), 0);
+    let nested = tally.nested();
+    let counts = [
+        nested.tables,
+        nested.runs,
+        nested.steps_of_runs,
+        nested.steps,
+    ];
+    assert!(counts.iter().all(|count| *count >= 50), "{nested:?}");
 }
 
 #[test]
 fn tables_agree() {
-    agree(2, 1500, Group::Table);
-    agree(3, 1500, Group::TableLimits);
-    agree(4, 1500, Group::DamagedTable);
+    for (seed, group, nested) in [
+        (2, Group::Table, 200),
+        (3, Group::TableLimits, 50),
+        (4, Group::DamagedTable, 5),
+    ] {
+        let tally = agree(seed, 1500, group);
+        assert!(tally.nested().tables >= nested, "{tally}");
+    }
 }
 
 #[test]
@@ -57,6 +70,8 @@ fn short_runs_agree() {
         tally.answers("run accepted") >= 400 && tally.answers("run violated") >= 400,
         "{tally}"
     );
+    let nested = tally.nested();
+    assert!(nested.runs >= 200 && nested.steps_of_runs >= 800, "{tally}");
 }
 
 #[test]
@@ -93,6 +108,7 @@ fn steps_and_places_agree() {
         steps.answers("step accepted") >= 500 && steps.answers("step violated") >= 300,
         "{steps}"
     );
+    assert!(steps.nested().steps >= 300, "{steps}");
     let places = agree(12, 3000, Group::SamePlace);
     assert!(
         places.answers("places the same") >= 300 && places.answers("places different") >= 300,

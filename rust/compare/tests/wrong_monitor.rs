@@ -1,10 +1,12 @@
 //! A deliberately wrong monitor is found, and what is reported is small.
 
-use compare::case::{Answer, Case};
+use ccsl::Clocks;
+use compare::case::{Answer, Case, Read};
 use compare::compare;
-use compare::monitors::{library, second};
+use compare::generate::ticks::all;
+use compare::monitors::{defines, library, second};
 use compare::Mismatch;
-use second_opinion::{read_table, Kind};
+use second_opinion::{judge, read_table, Kind, Record, StepAnswer};
 
 /// A monitor that reads `glb` as `lub`.
 fn glb_is_lub(case: &Case) -> Answer {
@@ -20,10 +22,8 @@ fn glb_is_lub(case: &Case) -> Answer {
 /// A monitor that lets a word pass its million.
 fn no_gap_limit(case: &Case) -> Answer {
     match second(case) {
-        Answer::Step(second_opinion::StepAnswer::Refused(refusal), words)
-            if refusal.number == 51 =>
-        {
-            Answer::Step(second_opinion::StepAnswer::Accepted, words)
+        Answer::Step(StepAnswer::Refused(refusal), words) if refusal.number == 51 => {
+            Answer::Step(StepAnswer::Accepted, words)
         }
         answer => answer,
     }
@@ -61,6 +61,178 @@ fn breaks_off(case: &Case) -> Answer {
         assert!(!recording.windows(3).any(|three| three == b"#7 "), "time 7");
     }
     second(case)
+}
+
+/// Whether a record defines an implicit clock.
+fn is_implicit(record: &Record, clocks: Clocks) -> bool {
+    defines(record.kind) && record.defined >= u64::from(clocks.named)
+}
+
+/// The record with other numbers for its clocks: `met` has the old ones in the order of the new.
+fn renumbered(record: &Record, met: &[u64]) -> Record {
+    let new = |old: u64| met.iter().position(|met| *met == old).expect("all are met") as u64;
+    Record {
+        defined: new(record.defined),
+        first: new(record.first),
+        second: new(record.second),
+        ..*record
+    }
+}
+
+/// A monitor that numbers implicit clocks as they are met, before the names behind them.
+fn numbers_as_met(case: &Case) -> Answer {
+    let mut answer = second(case);
+    if let (Case::Read { text }, Answer::Read(Ok(read))) = (case, &mut answer) {
+        let mut implicit = u64::from(read.counts.named)..;
+        let mut met = Vec::new();
+        for word in text.split_inclusive(|byte| b" \n()".contains(byte)) {
+            let (last, name) = word.split_last().expect("no piece is empty");
+            let name = if b" \n()".contains(last) { name } else { word };
+            let named = |clock: &(String, _)| clock.0.as_bytes() == name;
+            if let Some(clock) = read.clocks.iter().position(named) {
+                if !met.contains(&(clock as u64)) {
+                    met.push(clock as u64);
+                }
+            }
+            if *last == b')' {
+                met.extend(implicit.next());
+            }
+        }
+        for record in &mut read.records {
+            *record = renumbered(record, &met);
+        }
+    }
+    answer
+}
+
+/// The places of the records of a line's expressions below the record at `place`, in the order that
+/// `order` gives a record and those of its left and its right operand.
+fn walk(read: &Read, place: usize, order: fn([Vec<usize>; 3]) -> Vec<usize>) -> Vec<usize> {
+    let record = &read.records[place];
+    let below = |clock: u64| {
+        let defining = |other: &Record| is_implicit(other, read.counts) && other.defined == clock;
+        let place = read.records.iter().position(defining);
+        place.map_or(Vec::new(), |place| walk(read, place, order))
+    };
+    let left = below(record.first);
+    let right = match record.kind {
+        Kind::Await => Vec::new(),
+        _ => below(record.second),
+    };
+    if is_implicit(record, read.counts) {
+        order([vec![place], left, right])
+    } else {
+        [order([vec![], left, right]), vec![place]].concat()
+    }
+}
+
+/// A monitor that has the records of a line's expressions in another order.
+fn reordered(case: &Case, order: fn([Vec<usize>; 3]) -> Vec<usize>) -> Answer {
+    let mut answer = second(case);
+    if let Answer::Read(Ok(read)) = &mut answer {
+        let own = (0..read.records.len()).filter(|p| !is_implicit(&read.records[*p], read.counts));
+        let places: Vec<usize> = own.flat_map(|place| walk(read, place, order)).collect();
+        let records: Vec<Record> = places.iter().map(|place| read.records[*place]).collect();
+        let implicit = records.iter().filter(|r| is_implicit(r, read.counts));
+        let met: Vec<u64> = (0..u64::from(read.counts.named))
+            .chain(implicit.map(|record| record.defined))
+            .collect();
+        read.records = records.iter().map(|r| renumbered(r, &met)).collect();
+        if let Ok(words) = &mut read.start {
+            let old = *words;
+            for (word, place) in words.iter_mut().zip(places) {
+                *word = old[place];
+            }
+        }
+    }
+    answer
+}
+
+/// A monitor that puts an outer expression before its inner ones.
+fn outer_first(case: &Case) -> Answer {
+    reordered(case, |[own, left, right]| [own, left, right].concat())
+}
+
+/// A monitor that puts the right operand's expressions before the left one's.
+fn right_first(case: &Case) -> Answer {
+    reordered(case, |[own, left, right]| [right, left, own].concat())
+}
+
+/// A monitor that works the ticks of implicit clocks out with words that the step has moved.
+fn ticks_by_moved_words(case: &Case) -> Answer {
+    let answer = second(case);
+    let Case::Step {
+        records,
+        clocks,
+        words,
+        mut ticks,
+    } = case
+    else {
+        return answer;
+    };
+    if answer.refusal().is_some() {
+        return answer;
+    }
+    let mut moved = *words;
+    for (record, word) in records.iter().zip(&mut moved) {
+        if is_implicit(record, *clocks) {
+            let with = ticks | 1 << record.defined;
+            let both = [ticks, with].map(|ticks| judge(record, *word, ticks));
+            *word = both
+                .into_iter()
+                .find(|(holds, _)| *holds)
+                .map_or(*word, |(_, after)| after);
+            if judge(record, *word, with).0 {
+                ticks = with;
+            }
+        }
+    }
+    for (place, record) in records.iter().enumerate() {
+        if !is_implicit(record, *clocks) {
+            let (holds, after) = judge(record, words[place], ticks);
+            if !holds {
+                return Answer::Step(StepAnswer::Violated(place as u64 + 1), *words);
+            }
+            moved[place] = after;
+        }
+    }
+    Answer::Step(StepAnswer::Accepted, moved)
+}
+
+/// A monitor that asks 61 by the clock count.
+fn implicit_clocks_in_tick_sets(case: &Case) -> Answer {
+    let answer = second(case);
+    let mut case = case.clone();
+    if let Case::Step { clocks, ticks, .. } = &mut case {
+        let is_61 = answer.refusal().is_some_and(|refusal| refusal.number == 61);
+        if is_61 && *ticks & !all(clocks.count) == 0 {
+            *ticks &= all(clocks.named);
+            return second(&case);
+        }
+    }
+    answer
+}
+
+/// A monitor for which a parenthesis that closes without partner closes one that is still to come.
+fn closes_without_partner(case: &Case) -> Answer {
+    let mut answer = second(case);
+    if let (Case::Read { text }, Answer::Read(Err(refusal))) = (case, &mut answer) {
+        let mut lines = text.split(|byte| *byte == b'\n');
+        let line = lines.nth(refusal.place.saturating_sub(1) as usize);
+        let mut open = 0;
+        let depths = line.unwrap_or_default().iter().map(|byte| {
+            match byte {
+                b'(' => open += 1,
+                b')' => open -= 1,
+                _ => {}
+            }
+            open
+        });
+        if refusal.number == 19 && depths.max() <= Some(16) {
+            refusal.number = 20;
+        }
+    }
+    answer
 }
 
 /// What is found when a wrong monitor is compared with the library.
@@ -133,6 +305,72 @@ fn a_monitor_that_breaks_off_is_found_with_its_message() {
         (&b""[..], &b"#7 "[..]),
         "{mismatch}"
     );
+}
+
+/// What is found is a table of one line, with at most so many expressions in parentheses.
+#[track_caller]
+fn assert_one_line(mismatch: &Mismatch, most: usize) {
+    let Case::Read { text } = &mismatch.case else {
+        panic!("{mismatch}")
+    };
+    let table = read_table(text).unwrap_or_else(|_| panic!("{mismatch}"));
+    let implicit = (table.clocks - table.named) as usize;
+    assert_eq!(table.records.len(), implicit + 1, "{mismatch}");
+    assert!(implicit <= most, "{mismatch}");
+}
+
+#[test]
+fn implicit_clocks_before_later_names_are_found_with_one_line() {
+    assert_one_line(&found(numbers_as_met), 1);
+}
+
+#[test]
+fn expressions_in_another_order_are_found_with_two_or_three_of_them() {
+    assert_one_line(&found(outer_first), 2);
+    assert_one_line(&found(right_first), 3);
+}
+
+#[test]
+fn implicit_ticks_by_moved_words_are_found_with_two_records() {
+    let mismatch = found(ticks_by_moved_words);
+    let Case::Step {
+        records, clocks, ..
+    } = &mismatch.case
+    else {
+        panic!("{mismatch}")
+    };
+    assert_eq!(records.len(), 2, "{mismatch}");
+    assert!(is_implicit(&records[0], *clocks), "{mismatch}");
+    assert_eq!(clocks.count, clocks.named + 1, "{mismatch}");
+}
+
+#[test]
+fn a_tick_set_with_implicit_clocks_is_found_with_one_clock() {
+    let mismatch = found(implicit_clocks_in_tick_sets);
+    let Case::Step {
+        records,
+        clocks,
+        ticks,
+        ..
+    } = &mismatch.case
+    else {
+        panic!("{mismatch}")
+    };
+    let one_implicit = Clocks { named: 0, count: 1 };
+    assert_eq!(
+        (records.len(), *clocks, *ticks),
+        (0, one_implicit, 1),
+        "{mismatch}"
+    );
+}
+
+#[test]
+fn a_closing_parenthesis_without_partner_is_found_with_seventeen_openers() {
+    let mismatch = found(closes_without_partner);
+    let Case::Read { text } = &mismatch.case else {
+        panic!("{mismatch}")
+    };
+    assert_eq!(*text, b")(((((((((((((((((", "{mismatch}");
 }
 
 #[test]
