@@ -31,7 +31,7 @@ fn usage() -> ExitCode {
     ExitCode::from(2)
 }
 
-/// Prepares an input, asks so often, and fails where an answer is not that it is accepted.
+/// Prepares an input, asks so often, and fails where an answer is not the expected one.
 fn many(workload: &str, size: &str, who: &str, times: &str) -> ExitCode {
     let (Ok(size), Ok(times)) = (size.parse(), times.parse()) else {
         return usage();
@@ -97,7 +97,7 @@ fn calls(input: &mut Input, call: fn(&mut Input) -> bool) -> u32 {
 fn sample(input: &mut Input, call: fn(&mut Input) -> bool, calls: u32) -> Duration {
     let start = Instant::now();
     for _ in 0..calls {
-        assert!(call(input), "the input is accepted");
+        assert!(call(input), "the answer is the expected one");
     }
     start.elapsed()
 }

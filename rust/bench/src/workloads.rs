@@ -7,6 +7,9 @@ use std::hint::black_box;
 pub enum Input {
     /// A table and a recording.
     Run { table: Vec<u8>, recording: Vec<u8> },
+    /// A table that is read alone, and the number of the limit that it breaks, 0 where it breaks
+    /// none.
+    Read { text: Vec<u8>, number: u64 },
     /// Records, as numbers for the library and as they are; the step ticks every clock.
     Step {
         numbers: Vec<u64>,
@@ -24,8 +27,26 @@ pub enum Input {
 /// Clocks of the tables with many constraints.
 const CLOCKS: u32 = 32;
 
+/// Named clocks of the table with nested lines; as many are implicit.
+const NAMED: u32 = 16;
+
+/// Bytes of the tables that are read alone: as many as a table may have.
+const TABLE_BYTES: usize = 4096;
+
 /// The names of the workloads.
-pub const WORKLOADS: [&str; 5] = ["dense", "wide", "marks", "step", "same_place"];
+pub const WORKLOADS: [&str; 11] = [
+    "dense",
+    "wide",
+    "marks",
+    "nested",
+    "read_flat",
+    "read_deep",
+    "read_names",
+    "read_words",
+    "read_openers",
+    "step",
+    "same_place",
+];
 
 /// What the workloads are, for a reader of the table.
 pub const ABOUT: &str = "\
@@ -33,6 +54,15 @@ Runs, by the recording's size in bytes:
 - dense: 64 constraints on 32 clocks, every clock ticks in every step
 - wide: 128 variables, most of them not in the table, the changes on those declared last
 - marks: 64 constraints on 32 clocks, marks alone
+- nested: 64 constraints, 16 of them of expressions in parentheses up to five deep, all 16 named
+  clocks tick in every step
+
+Tables that are read alone, by their size in bytes:
+- read_flat: 64 lines without parentheses
+- read_deep: one line of expressions sixteen deep, refused with 17
+- read_names: one line of as many different names as fit, refused with 17
+- read_words: one line of as many names as fit, and nothing else, refused with 12
+- read_openers: one line of opening parentheses, refused with 19
 
 Calls, by the number of records:
 - step: all 32 clocks tick, on the first constraints of dense
@@ -45,6 +75,7 @@ prepared numbers.";
 pub fn sizes(workload: &str) -> Vec<usize> {
     let powers = match workload {
         "step" | "same_place" => 0..=6,
+        _ if workload.starts_with("read_") => 12..=12,
         _ => 10..=16,
     };
     powers
@@ -53,14 +84,14 @@ pub fn sizes(workload: &str) -> Vec<usize> {
         .collect()
 }
 
-/// The input of a workload; none where the recording's header alone is larger than the size, or
-/// there is no such workload.
+/// The input of a workload; none where the recording's header alone is larger than the size, where a
+/// table that is read alone is to have another size, or there is no such workload.
 pub fn input(workload: &str, size: usize) -> Option<Input> {
     match workload {
         "dense" => run(
             dense_table(),
-            declarations(),
-            |time| format!("#{time}\n{}", ticks()),
+            declarations(CLOCKS),
+            |time| format!("#{time}\n{}", ticks(CLOCKS)),
             size,
         ),
         "wide" => run(
@@ -71,10 +102,21 @@ pub fn input(workload: &str, size: usize) -> Option<Input> {
         ),
         "marks" => run(
             dense_table(),
-            declarations(),
+            declarations(CLOCKS),
             |time| format!("#{time}\n"),
             size,
         ),
+        "nested" => run(
+            nested_table(),
+            declarations(NAMED),
+            |time| format!("#{time}\n{}", ticks(NAMED)),
+            size,
+        ),
+        "read_flat" => read(flat_text(), 0, size),
+        "read_deep" => read(deep_text(), 17, size),
+        "read_names" => read(names_text(), 17, size),
+        "read_words" => read("a ".repeat(TABLE_BYTES / 2), 12, size),
+        "read_openers" => read("(".repeat(TABLE_BYTES), 19, size),
         "step" => Some(records(size)).map(|(numbers, records)| Input::Step {
             numbers,
             records,
@@ -127,15 +169,99 @@ fn id(clock: u32) -> char {
     char::from(b'!' + clock as u8)
 }
 
-fn declarations() -> String {
-    let variables: String = (0..CLOCKS)
+/// 48 lines on 16 clocks, all of which may tick together, with 16 expressions in parentheses, six of
+/// them in the first line.
+fn nested_table() -> String {
+    let mut rows = vec![
+        "(((((c0 lub c1) clockUnion c2) glb c3) clockInter c4) upto (await 9 c5)) isSubClockOf c6"
+            .to_string(),
+    ];
+    rows.extend((0..3).map(|i| {
+        let [a, b, c, d] = [0, 1, 2, 3].map(|k| 4 * i + k);
+        format!("((c{a} lub c{b}) clockInter c{c}) precedes c{d}")
+    }));
+    rows.extend((0..4).map(|i| {
+        let [a, b, c] = [0, 4, 8].map(|k| i + k);
+        format!("c{a} precedes (c{b} clockUnion c{c})")
+    }));
+    rows.extend((0..15).map(|i| format!("c{i} precedes c{}", i + 1)));
+    rows.extend((0..14).map(|i| format!("c{i} precedes c{}", i + 2)));
+    rows.extend((0..11).map(|i| format!("c{i} isSubClockOf c{}", i + 3)));
+    rows.join("\n") + "\n"
+}
+
+/// A table's text, made as long as a table may be with spaces at its end; none of another size.
+fn read(text: String, number: u64, size: usize) -> Option<Input> {
+    (size == TABLE_BYTES).then(|| Input::Read {
+        text: format!("{text:TABLE_BYTES$}").into_bytes(),
+        number,
+    })
+}
+
+/// 64 lines on 32 clocks with names of 16 bytes, each clock defined.
+fn flat_text() -> String {
+    let name = |clock: usize| format!("clock_of_bench{:02}", clock % 32);
+    let relation = |i: usize| format!("{} strictly precedes {}", name(i), name(i + 1));
+    let definition = |i: usize| {
+        let form = if i < 24 { "strictly sampled" } else { "upto" };
+        format!(
+            "{} clockDef {} {form} {}",
+            name(i),
+            name(i + 1),
+            name(i + 2)
+        )
+    };
+    let rows: Vec<String> = (0..32)
+        .map(relation)
+        .chain((0..32).map(definition))
+        .collect();
+    rows.join("\n") + "\n"
+}
+
+/// One line, a relation of a name and an expression of as many different names as fit; `left` says how
+/// many of so many names an expression has in its left operand.
+fn line(left: fn(usize) -> usize) -> String {
+    let letters = || (b'a'..=b'z').chain(b'A'..=b'Z').map(char::from);
+    let names: Vec<String> = letters()
+        .flat_map(|one| letters().map(move |other| format!("{one}{other}")))
+        .collect();
+    let line = |count| format!("c ={}", operand(&names[..count], left));
+    let fits = |line: &String| line.len() <= TABLE_BYTES;
+    let lines = (2..names.len()).map(line).take_while(fits);
+    lines.last().expect("two names fit")
+}
+
+/// A name, or an expression of several in parentheses.
+fn operand(names: &[String], left: fn(usize) -> usize) -> String {
+    if let [name] = names {
+        return name.clone();
+    }
+    let (one, other) = names.split_at(left(names.len()));
+    let [one, other] = [one, other].map(|names| operand(names, left));
+    let before = if one.ends_with(')') { "" } else { " " };
+    let behind = if other.starts_with('(') { "" } else { " " };
+    format!("({one}{before}lub{behind}{other})")
+}
+
+/// A line that is sixteen deep: left operands have twice as many names as right ones.
+fn deep_text() -> String {
+    line(|names| names - (names / 3).max(1))
+}
+
+/// A line in which as many names fit as can be: both operands have as many.
+fn names_text() -> String {
+    line(|names| names / 2)
+}
+
+fn declarations(clocks: u32) -> String {
+    let variables: String = (0..clocks)
         .map(|clock| format!("$var event 1 {} c{clock} $end\n", id(clock)))
         .collect();
     variables + "$enddefinitions $end\n"
 }
 
-fn ticks() -> String {
-    (0..CLOCKS)
+fn ticks(clocks: u32) -> String {
+    (0..clocks)
         .map(|clock| format!("1{}\n", id(clock)))
         .collect()
 }
@@ -166,7 +292,7 @@ fn records(count: usize) -> (Vec<u64>, Vec<Record>) {
 }
 
 impl Input {
-    /// Asks the proved library once; whether it accepted.
+    /// Asks the proved library once; whether it accepted, or read or refused as expected.
     pub fn library(&mut self) -> bool {
         match self {
             Input::Run { table, recording } => {
@@ -181,10 +307,19 @@ impl Input {
                 black_box(&words);
                 black_box(answer)[0] == 0
             }
+            Input::Read { text, number } => {
+                let mut answer = [0; ccsl::raw::READ_ANSWER];
+                let mut records = [0; ccsl::raw::RECORDS * ccsl::raw::RECORD];
+                let mut names = [0; ccsl::raw::CLOCKS * 2];
+                ccsl::raw::read_table(black_box(text), &mut answer, &mut records, &mut names);
+                black_box((&records, &names));
+                black_box(answer)[1] == *number
+            }
             Input::Step { numbers, words, .. } => {
                 let mut answer = [0; ccsl::raw::STEP_ANSWER];
                 ccsl::raw::step(
                     black_box(numbers),
+                    CLOCKS,
                     CLOCKS,
                     black_box(words),
                     u32::MAX,
@@ -197,6 +332,7 @@ impl Input {
                 ccsl::raw::same_place(
                     black_box(numbers),
                     CLOCKS,
+                    CLOCKS,
                     black_box(words),
                     words,
                     &mut answer,
@@ -206,16 +342,22 @@ impl Input {
         }
     }
 
-    /// Asks the separately written monitor once; whether it accepted.
+    /// Asks the separately written monitor once; whether it accepted, or read or refused as
+    /// expected.
     pub fn rust(&mut self) -> bool {
         match self {
             Input::Run { table, recording } => {
                 let report = black_box(second_opinion::run(black_box(table), black_box(recording)));
                 report.verdict == second_opinion::Verdict::Accepted
             }
+            Input::Read { text, number } => {
+                let read = black_box(second_opinion::read_table(black_box(text)));
+                read.map_or_else(|refusal| refusal.number, |_| 0) == *number
+            }
             Input::Step { records, words, .. } => {
                 let answer = second_opinion::step(
                     black_box(records),
+                    u64::from(CLOCKS),
                     u64::from(CLOCKS),
                     black_box(words),
                     u32::MAX,
@@ -225,6 +367,7 @@ impl Input {
             Input::Place { records, words, .. } => {
                 let answer = second_opinion::same_place(
                     black_box(records),
+                    u64::from(CLOCKS),
                     u64::from(CLOCKS),
                     black_box(words),
                     words,
@@ -237,5 +380,58 @@ impl Input {
     /// Asks nobody.
     pub fn nothing(&mut self) -> bool {
         black_box(true)
+    }
+}
+
+#[cfg(test)]
+mod tests {
+    use super::*;
+
+    #[test]
+    fn every_input_is_answered_as_expected() {
+        for workload in WORKLOADS {
+            let sizes = sizes(workload);
+            assert!(!sizes.is_empty(), "{workload}");
+            for size in sizes {
+                let mut input = input(workload, size).expect("the size is one of this workload");
+                assert!(input.library() && input.rust(), "{workload} {size}");
+            }
+        }
+    }
+
+    #[test]
+    fn the_nested_table_has_64_constraints_and_32_clocks() {
+        let table = second_opinion::read_table(nested_table().as_bytes()).expect("it is read");
+        assert_eq!(
+            (table.records.len(), table.named, table.clocks),
+            (WORDS, u64::from(NAMED), u64::from(CLOCKS))
+        );
+    }
+
+    #[test]
+    fn tables_that_are_read_alone_are_as_long_as_a_table_may_be() {
+        let read = |workload: &&str| workload.starts_with("read_");
+        for workload in WORKLOADS.into_iter().filter(read) {
+            let Some(Input::Read { text, .. }) = input(workload, TABLE_BYTES) else {
+                panic!("{workload}")
+            };
+            let behind = text.iter().rev().take_while(|byte| **byte == b' ').count();
+            assert_eq!(text.len(), TABLE_BYTES, "{workload}");
+            assert!(behind < 100, "{workload}: {behind} spaces at the end");
+        }
+    }
+
+    #[test]
+    fn the_deep_line_is_sixteen_deep() {
+        let mut open = 0;
+        let depths = deep_text().into_bytes().into_iter().map(|byte| {
+            match byte {
+                b'(' => open += 1,
+                b')' => open -= 1,
+                _ => {}
+            }
+            open
+        });
+        assert_eq!(depths.max(), Some(16));
     }
 }
