@@ -225,10 +225,10 @@ fn line(left: fn(usize) -> usize) -> String {
     let names: Vec<String> = letters()
         .flat_map(|one| letters().map(move |other| format!("{one}{other}")))
         .collect();
-    let line = |count| format!("c ={}", operand(&names[..count], left));
-    let fits = |line: &String| line.len() <= TABLE_BYTES;
-    let lines = (2..names.len()).map(line).take_while(fits);
-    lines.last().expect("two names fit")
+    let line = |count: usize| format!("c ={}", operand(&names[..count], left));
+    let counts: Vec<usize> = (2..TABLE_BYTES / 4).collect();
+    let fitting = counts.partition_point(|count| line(*count).len() <= TABLE_BYTES);
+    line(counts[fitting - 1])
 }
 
 /// A name, or an expression of several in parentheses.

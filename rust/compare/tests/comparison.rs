@@ -54,8 +54,8 @@ fn mixed_questions_agree_and_meet_every_refusal_number() {
 #[test]
 fn tables_agree() {
     for (seed, group, nested) in [
-        (2, Group::Table, 200),
-        (3, Group::TableLimits, 50),
+        (2, Group::Table, 150),
+        (3, Group::TableLimits, 20),
         (4, Group::DamagedTable, 5),
     ] {
         let tally = agree(seed, 1500, group);

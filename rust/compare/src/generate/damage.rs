@@ -39,5 +39,5 @@ fn any_byte(random: &mut Random) -> u8 {
     if random.once_in(4) {
         return random.below(256) as u8;
     }
-    random.pick(b" \n\t\r#01xXzZ$=!\"abc_29()()")
+    random.pick(b" \n\t\r#01xXzZ$=!\"abc_29()")
 }

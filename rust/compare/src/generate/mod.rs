@@ -49,17 +49,17 @@ pub enum Group {
 /// The groups, and how often each comes up.
 pub const GROUPS: [(usize, Group); 13] = [
     (600, Group::Table),
-    (1600, Group::TableLimits),
-    (1000, Group::DamagedTable),
-    (1800, Group::ShortRun),
-    (180, Group::MediumRun),
+    (1700, Group::TableLimits),
+    (900, Group::DamagedTable),
+    (1700, Group::ShortRun),
+    (160, Group::MediumRun),
     (20, Group::LongRun),
     (1900, Group::RecordingLimits),
     (20, Group::RecordingLength),
     (1200, Group::DamagedRecording),
     (600, Group::Start),
-    (1900, Group::Step),
-    (1000, Group::SamePlace),
+    (1800, Group::Step),
+    (900, Group::SamePlace),
     (310, Group::SamePlaceBySearch),
 ];
 

@@ -137,7 +137,7 @@ pub fn place(random: &mut Random) -> Case {
 /// be looked at.
 pub fn search(random: &mut Random) -> Case {
     let named = random.within(2..=5) as u32;
-    let implicit = if random.once_in(3) {
+    let implicit = if random.once_in(4) {
         random.within(1..=2) as u32
     } else {
         0
@@ -171,7 +171,7 @@ pub fn search(random: &mut Random) -> Case {
 impl Material {
     /// Mostly few records over few clocks, some of them often implicit; sometimes those of a table.
     fn any(random: &mut Random) -> Material {
-        if random.once_in(10) {
+        if random.once_in(16) {
             return Material::of_table(random);
         }
         let named = match random.below(12) {
@@ -180,10 +180,10 @@ impl Material {
             3 => 32,
             _ => random.within(2..=5),
         };
-        let implicit = match random.below(12) {
-            0 | 1 => random.within(1..=3),
-            2 => random.within(1..=10),
-            3 => 32 - named,
+        let implicit = match random.below(24) {
+            0..=2 => random.within(1..=3),
+            3 => random.within(1..=10),
+            4 => 32 - named,
             _ => 0,
         };
         let clocks = Clocks {

@@ -7,12 +7,8 @@ use crate::random::Random;
 /// A fault, or something that is just no fault, put into the lines of a table.
 type Spoil = fn(&mut Random, &mut Lines);
 
-const SPOILS: [(usize, Spoil); 12] = [
+const SPOILS: [(usize, Spoil); 8] = [
     (6, shape),
-    (2, pair_around),
-    (1, inner_relation),
-    (3, without_partner),
-    (3, deep),
     (3, long_name),
     (4, await_number),
     (4, named_twice),
@@ -22,13 +18,29 @@ const SPOILS: [(usize, Spoil); 12] = [
     (1, blank),
 ];
 
+/// The same with parentheses.
+const NESTED_SPOILS: [(usize, Spoil); 7] = [
+    (3, pair_around),
+    (2, inner_relation),
+    (4, without_partner),
+    (4, deep),
+    (3, inner_await),
+    (2, many_clocks),
+    (2, many_constraints),
+];
+
 /// A table with one to three such things, sometimes of a limited length or with a byte that may not
 /// stand in it.
 pub fn text(random: &mut Random) -> Vec<u8> {
     let size = Size::any(random);
+    let nested = size.implicit > 0 || random.once_in(6);
     let (mut lines, _) = lines(random, size);
     for _ in 0..random.pick_by_weight(&[(6, 1), (3, 2), (1, 3)]) {
-        random.pick_by_weight(&SPOILS)(random, &mut lines);
+        if nested && !random.once_in(3) {
+            random.pick_by_weight(&NESTED_SPOILS)(random, &mut lines);
+        } else {
+            random.pick_by_weight(&SPOILS)(random, &mut lines);
+        }
     }
     let mut text = lines.write(random);
     if random.once_in(6) {
@@ -68,7 +80,7 @@ fn any_word(random: &mut Random) -> Word {
         3 => random
             .pick(&[
                 "=", "#", "==", "a=b", "a#", "1a", "_a", "a-b", "a_", "A9", "Lub", "LUB", "await2",
-                "(", ")", "()", "(a)", "~", "-1", "+1", "1.0",
+                "(", "~", "-1", "+1", "1.0",
             ])
             .as_bytes()
             .to_vec(),
@@ -218,8 +230,8 @@ const NUMBERS: &str = "0 1 2 999999 1000000 1000001 1000002 000 01 0001000000 00
     10000000 4294967296 4294967297 18446744073709551616 18446744073709551617 \
     340282366920938463463374607431768211457";
 
-/// 14 and its other side: a line with await and a number at an edge, in parentheses or not.
-fn await_number(random: &mut Random, lines: &mut Lines) {
+/// The words of an await with a number at an edge.
+fn awaited(random: &mut Random) -> Vec<Word> {
     let number = match random.below(10) {
         0 => vec![b'9'; random.within(1..=120)],
         1 => [
@@ -229,20 +241,30 @@ fn await_number(random: &mut Random, lines: &mut Lines) {
         .concat(),
         _ => random.pick_word(NUMBERS).as_bytes().to_vec(),
     };
-    let (a, b) = (name_of_length(random, 4), name_of_length(random, 5));
-    let awaited = vec![b"await".to_vec(), number, a];
-    let inner = [vec![opener()], awaited.clone(), vec![closer()]].concat();
-    let (name, definition) = (vec![b], vec![b"clockDef".to_vec()]);
-    let mut line = match random.below(6) {
+    vec![b"await".to_vec(), number, name_of_length(random, 4)]
+}
+
+/// 14 and its other side: a line with await.
+fn await_number(random: &mut Random, lines: &mut Lines) {
+    let name = vec![name_of_length(random, 5), b"clockDef".to_vec()];
+    let line = [name, awaited(random)].concat();
+    let place = random.below(lines.0.len() + 1);
+    lines.0.insert(place, line);
+}
+
+/// 14 and its other side: a line with await in parentheses, also behind another await.
+fn inner_await(random: &mut Random, lines: &mut Lines) {
+    let name = vec![name_of_length(random, 5)];
+    let inner = [vec![opener()], awaited(random), vec![closer()]].concat();
+    let mut line = match random.below(3) {
         0 => [inner, vec![b"#".to_vec()], name].concat(),
         1 => [name, vec![b"precedes".to_vec()], inner].concat(),
-        2 => {
-            let again = vec![b"await".to_vec(), b"2".to_vec()];
-            [name, definition, again, inner].concat()
+        _ => {
+            let words = ["clockDef", "await", "2"].map(|word| word.as_bytes().to_vec());
+            [name, words.to_vec(), inner].concat()
         }
-        _ => [name, definition, awaited].concat(),
     };
-    if random.once_in(4) {
+    if random.once_in(2) {
         nest(random, &mut line, &clocks_of(lines));
     }
     let place = random.below(lines.0.len() + 1);
@@ -310,7 +332,7 @@ fn many_clocks(random: &mut Random, lines: &mut Lines) {
     let count_of = |lines: &Lines| clocks_of(lines).len() + pairs_of(lines);
     let mut count = count_of(lines);
     let new = |number: usize| format!("Q{number}").into_bytes();
-    let nesting = random.once_in(3);
+    let nesting = pairs_of(lines) > 0 && random.once_in(2);
     while count < wanted {
         if nesting && !random.once_in(4) {
             let names = clocks_of(lines);
@@ -350,7 +372,7 @@ fn many_constraints(random: &mut Random, lines: &mut Lines) {
         .cloned()
         .collect();
     let names = clocks_of(lines);
-    if random.once_in(3) {
+    if pairs_of(lines) > 0 && random.once_in(2) {
         for _ in 0..random.below(24) {
             if let Some(line) = some_line(random, lines) {
                 nest(random, line, &names);

@@ -52,7 +52,7 @@ impl Size {
             constraints,
             implicit: 0,
         };
-        if random.once_in(5) {
+        if random.once_in(6) {
             flat.nested(random)
         } else {
             flat
