@@ -9,10 +9,13 @@ use lib.ListN.{length}
 use Rattle.limit.specs.Limit.{numberOf}
 use Rattle.constraint.specs.Implicit.{completed}
 use Rattle.constraint.specs.Lists.{brokenWord}
-use Rattle.constraint.specs.Ticks.{bits}
+use Rattle.constraint.specs.Ticks.{Ticks, bits}
 use Rattle.constraint.specs.declared.Broken.the-variants.{Nowhere}
 use Rattle.constraint.specs.declared.Configuration.{Configuration}
 use Rattle.constraint.specs.declared.Constraint.{Constraint}
+use Rattle.constraint.proofs.ImplicitLaws.{completed-none}
+use Rattle.constraint.proofs.TickSets.{bits-zero}
+use Rattle.judging.proofs.StepLaws.{judged-none}
 use Rattle.grammar.specs.Building.{clocksIn}
 use Rattle.table.specs.Reader as table
 use Rattle.limit.specs.declared.Check.the-variants.{Passed, Refused as Unread}
@@ -52,6 +55,12 @@ module _ (named : ℕ) (rs : List Constraint) (b : Progress) where
     pub closed-some : o .begun ≡ true → closed named rs b o ≡ settles rs b o (judged (bits (completed named rs (b .configuration .words) (o .ticks))) rs (b .configuration))
     unfolding closed
     closed-some e = rw e
+
+    -- without ticks
+    pub closed-quiet : o .begun ≡ true → o .ticks ≡ 0 → brokenWord rs (b .configuration .words) ≡ Nowhere → closed named rs b o ≡ on (record { configuration = b .configuration; steps = record { 0 = b .steps .0 + 1 } })
+    closed-quiet e q inside =
+        let none-ticks = ap (λ (f : ℕ). bits (completed named rs (b .configuration .words) f)) q ∙ ap bits (completed-none named rs (b .configuration .words)) ∙ bits-zero in
+        closed-some e ∙ ap (settles rs b o) (ap (λ (F : Ticks). judged F rs (b .configuration)) none-ticks ∙ judged-none rs (b .configuration) inside)
 
     -- what is left to judge after it
     left : Next → Reading → Judging

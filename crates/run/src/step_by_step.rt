@@ -109,7 +109,7 @@ fn settle(
     }
 }
 
-// A step that is closed is completed and judged, where a mark has begun one.
+// A step that is closed is completed and judged, where a mark has begun one. Without ticks every record holds, and no word moves.
 pub fn close(
     records: [Constraint; 64],
     count: usize,
@@ -122,6 +122,13 @@ pub fn close(
 {
     if !step.begun {
         return on(progress);
+    }
+    if step.ticks == 0 {
+        let configuration = progress.configuration;
+        return on(Progress {
+            configuration,
+            steps: Steps(progress.steps.0 + 1),
+        });
     }
     settle(
         records,

@@ -34,7 +34,8 @@ use Rattle.forms.proofs.LinesPass.{lines-pass}
 use Rattle.forms.proofs.Said.{said}
 use Rattle.forms.proofs.SplitWords.{Ordered, ordered-to, lines-are, lines-ordered}
 use Rattle.table.specs.Claims.{RefusedExactly, ReadExactly, ReadAs, RecordsAreForms}
-use Rattle.table.specs.Reader.{read, refused, tellOf, readLines, mostBytes, readTable, Passes, EveryTablePasses}
+use Rattle.table.specs.Reader.{read, refused, Told, tellOf, told, readLines, mostBytes, readTable, Passes, EveryTablePasses}
+use Rattle.table.specs.declared.TableRead.{TableRead}
 use Rattle.table.proofs.ClocksDefined.{Marks, no-marks}
 use Rattle.table.proofs.LineAdded.{Builds, builds-on, Added, none-added, one-added}
 use Rattle.table.proofs.LineVerdict.{Verdict, line-verdict}
@@ -248,6 +249,6 @@ unfolding readTable
 every-table-passes t e = read-as t (refuseIf (ltb mostBytes (length t)) TableLength 0 (lines t)) (answer t) e .1
 
 -- at most 32 clocks, none where the table is refused
-pub most-clocks : (t : List ℕ) → clocksIn (readTable t .table) .count ≤ 32
+pub most-clocks : (t : List ℕ) (r : TableRead) → told r ≡ readTable t → clocksIn (r .table) .count ≤ 32
 unfolding readTable
-most-clocks t = few-clocks t (refuseIf (ltb mostBytes (length t)) TableLength 0 (lines t)) (answer t)
+most-clocks t r e = subst (λ (u : Told). clocksIn (u .table) .count ≤ 32) (sym e) (few-clocks t (refuseIf (ltb mostBytes (length t)) TableLength 0 (lines t)) (answer t))
