@@ -4,7 +4,7 @@ use mathlib.Core.Path.{_≡_, refl, sym, ap, _∙_}
 use mathlib.Core.Bool.{Bool, true, false, not, cond, _&&_, _||_, true≢false, false≢true, or-true, or-false, and-false, Bool·beq}
 use mathlib.Core.List.{List, [], _∷_, _++_, map}
 use Prim.Native.Nat.{ℕ, zero, suc, _%_, _^_, _<_, _≤_}
-use native.Mathlib.Nat.{le-trans, lt-of-lt-of-le, mod-eq-of-lt}
+use native.Mathlib.Nat.{lt-of-lt-of-le, mod-eq-of-lt}
 use native.Mathlib.Omega.{arith}
 use denote.Enum.Declared.{tagOf}
 use types.Run.{OneOf, miss}
@@ -29,7 +29,7 @@ use Rattle.constraint.proofs.Kind as kind
 use Rattle.constraint.proofs.Laws.{due-none}
 use Rattle.constraint.proofs.Named.{due-looks}
 use Rattle.constraint.proofs.OneMore.{known-still}
-use Rattle.constraint.proofs.TickSets.{with-tick-adds, with-tick-grows, with-tick-below, with-tick-high, bits-below, bits-zero}
+use Rattle.constraint.proofs.TickSets.{with-tick-adds, with-tick-below, with-tick-high, bits-below, bits-zero}
 
 -- ---- lists of records with their words
 
@@ -315,13 +315,7 @@ completed-named named (r ∷ rs) (w ∷ ws) f =
 pub completed-keeps : (named : ℕ) (rs : List Constraint) (ws : List Word) (f : ℕ) → f < 2 ^ named → completed named rs ws f % 2 ^ named ≡ f
 completed-keeps named rs ws f l = completed-named named rs ws f ∙ mod-eq-of-lt l
 
--- with a tick there is one, and with none there is none
-pub completed-grows : (named : ℕ) (rs : List Constraint) (ws : List Word) (f : ℕ) → f ≤ completed named rs ws f
-completed-grows named [] ws f = omega arith
-completed-grows named (r ∷ rs) [] f = omega arith
-completed-grows named (r ∷ rs) (w ∷ ws) f =
-    le-trans (by-implied named r w (bits f) (λ ks. f ≤ withTicks f ks) (omega arith) (λ k q p. with-tick-grows f (r .defined))) (completed-grows named rs ws _)
-
+-- with no tick there is none
 implied-none : (named : ℕ) (k : Kind) (w : Word) (c : ℕ) → implied named k w false false c ≡ []
 implied-none named Empty w c = refl
 implied-none named (Relates k) w c = refl

@@ -23,7 +23,7 @@ unfoldable pub namesIn : Words → Words
 namesIn [] = []
 namesIn (w ∷ ws) = cond (isName w) (w ∷ namesIn ws) (namesIn ws)
 
--- of a line in which each parenthesis has its partner
+-- the parentheses that open, which are as many as the pairs where each has its partner
 unfoldable pub pairsIn : Words → ℕ
 pairsIn [] = 0
 pairsIn (w ∷ ws) = cond (sameBytes w (ascii "(")) (suc (pairsIn ws)) (pairsIn ws)
