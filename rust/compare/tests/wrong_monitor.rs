@@ -3,6 +3,7 @@
 use ccsl::Clocks;
 use compare::case::{Answer, Case, Read};
 use compare::compare;
+use compare::generate::tables::FORM_WORDS;
 use compare::generate::ticks::all;
 use compare::monitors::{defines, library, second};
 use compare::Mismatch;
@@ -235,6 +236,30 @@ fn closes_without_partner(case: &Case) -> Answer {
     answer
 }
 
+/// The names of a line.
+fn names(line: &[u8]) -> Vec<&[u8]> {
+    line.split(|byte| b" ()".contains(byte))
+        .filter(|word| word.first().is_some_and(u8::is_ascii_alphabetic))
+        .filter(|word| !FORM_WORDS.iter().any(|form| form.as_bytes() == *word))
+        .collect()
+}
+
+/// A monitor that asks 15 of a line's first 32 names alone.
+fn fifteen_of_32_names(case: &Case) -> Answer {
+    let mut answer = second(case);
+    if let (Case::Read { text }, Answer::Read(Err(refusal))) = (case, &mut answer) {
+        let mut lines = text.split(|byte| *byte == b'\n');
+        let line = lines.nth(refusal.place.saturating_sub(1) as usize);
+        let mut first = names(line.unwrap_or_default());
+        first.truncate(32);
+        first.sort();
+        if refusal.number == 15 && first.windows(2).all(|two| two[0] != two[1]) {
+            refusal.number = 17;
+        }
+    }
+    answer
+}
+
 /// What is found when a wrong monitor is compared with the library.
 fn found(wrong: fn(&Case) -> Answer) -> Mismatch {
     *compare(21, 0..20_000, &library, &wrong, &mut |_| {})
@@ -370,6 +395,15 @@ fn a_closing_parenthesis_without_partner_is_found_with_seventeen_openers() {
         panic!("{mismatch}")
     };
     assert_eq!(*text, b")(((((((((((((((((", "{mismatch}");
+}
+
+#[test]
+fn a_name_that_stands_twice_is_found_with_33_names_or_34() {
+    let mismatch = found(fifteen_of_32_names);
+    let Case::Read { text } = &mismatch.case else {
+        panic!("{mismatch}")
+    };
+    assert!((33..=34).contains(&names(text).len()), "{mismatch}");
 }
 
 #[test]

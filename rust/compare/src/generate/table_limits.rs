@@ -19,12 +19,13 @@ const SPOILS: [(usize, Spoil); 8] = [
 ];
 
 /// The same with parentheses.
-const NESTED_SPOILS: [(usize, Spoil); 7] = [
+const NESTED_SPOILS: [(usize, Spoil); 8] = [
     (3, pair_around),
     (2, inner_relation),
     (4, without_partner),
     (4, deep),
     (3, inner_await),
+    (1, many_names),
     (2, many_clocks),
     (2, many_constraints),
 ];
@@ -271,11 +272,32 @@ fn inner_await(random: &mut Random, lines: &mut Lines) {
     lines.0.insert(place, line);
 }
 
+/// 15, or 17: a line of more names than a table may have, often with one of them twice.
+fn many_names(random: &mut Random, lines: &mut Lines) {
+    let wanted = random.within(33..=60);
+    let names: Vec<Word> = (0..wanted)
+        .map(|number| format!("Q{number}").into_bytes())
+        .collect();
+    let mut line = vec![names[0].clone(), b"=".to_vec(), names[1].clone()];
+    for _ in 0..2 * wanted {
+        nest(random, &mut line, &names);
+    }
+    if !random.once_in(3) {
+        twice(random, &mut line);
+    }
+    let place = random.below(lines.0.len() + 1);
+    lines.0.insert(place, line);
+}
+
 /// 15: a clock stands twice in a line, at any depths.
 fn named_twice(random: &mut Random, lines: &mut Lines) {
-    let Some(line) = some_line(random, lines) else {
-        return;
-    };
+    if let Some(line) = some_line(random, lines) {
+        twice(random, line);
+    }
+}
+
+/// One name of a line is put in the place of another.
+fn twice(random: &mut Random, line: &mut [Word]) {
     let places = names_in(line);
     if places.len() > 1 {
         let (from, to) = (random.pick(&places), random.pick(&places));
