@@ -95,8 +95,8 @@ fn judge_each(
     handed_back(Outcome::Held, Configuration { words })
 }
 
-// The step with a tick set of named clocks, from records and a configuration that limits 59 and 60 let pass. Without ticks every record holds, and
-// no word moves; where all clocks are named, there are no ticks to work out.
+// The step with a tick set of named clocks, from records and a configuration that limits 59 and 60 let pass. Where all clocks are named, there are
+// no ticks to work out.
 pub fn judge(
     records: [Constraint; 64],
     count: usize,
@@ -107,9 +107,6 @@ pub fn judge(
     requires { ⌜ k.Ready clocks records count (configuration .words) ⌝ }
     ensures { λ r. ⌜ r ≡ s.judged (allTicks clocks (slots count records) (configuration .words) ticks) (slots count records) configuration ⌝ }
 {
-    if ticks == 0 {
-        return handed_back(Outcome::Held, configuration);
-    }
     let mut all = ticks;
     if clocks.named != clocks.count {
         all = complete(clocks.named, records, count, configuration, ticks);
