@@ -23,6 +23,7 @@ use Rattle.grammar.specs.declared.OperandRead.{OperandRead}
 use Rattle.grammar.specs.declared.Token.{Token}
 use Rattle.grammar.specs.declared.Token.the-variants.{End, Name, Digits, ClockDef, Await, Strictly, Open, Close}
 use Rattle.grammar.specs.declared.WordRead.{WordRead}
+use Rattle.grammar.proofs.TokenLaws.{told-apart}
 
 -- ---- what every reading has
 abbrev pub Each : {A : Type 0} → (A → List Span → Type 0) → Parsed A → Type 0
@@ -199,6 +200,11 @@ module _ (t : List ℕ) (ns : Names) (n : ℕ) (s : Inner) (ws : List Span) wher
       go : (m : ℕ) → (m ≡ 0 → ⊥) → operand t ns m s ws ≡ andThen (expression t (operand t ns (m - 1)) s (rest ws)) (inner t)
       go zero k = absurd (k refl)
       go (suc m) k = let z : suc m - 1 ≡ m = omega arith in rw (e, z)
+
+-- a name is read as an operand at every level
+pub operand-read : (t : List ℕ) (at : ℕ) (w : WordRead) → FirstWord t at w → (ns : Names) (n : ℕ) (s : Inner) (k : ℕ) → is Name (w .token) ≡ true → k ≡ clockAt t ns (w .span)
+    → operand t ns n s (lineWords t at) ≡ parsed (record { left = s; clock = k }) (lineWords t (w .span .end))
+operand-read t at w f ns n s k e q = operand-name t ns n s (lineWords t at) (word-token t at w f Open false (told-apart Name Open (w .token) e)) ∙ sym (name-read t at w f ns s k e q)
 
 module _ (t : List ℕ) (p : Parsed (Formed Inner)) where
   pub inner-none : p ≡ noForm → andThen p (inner t) ≡ noForm

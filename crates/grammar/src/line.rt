@@ -202,7 +202,8 @@ pub fn await_number(digits: &[u8]) -> u32
     }
 }
 
-// A right side: a number and an operand behind `await`, or two operands with a kind between them.
+// A right side: a number and an operand behind `await`, or two operands with a kind between them. Of a pair, an operand that is a
+// name is read here, since a call would copy the implicit clocks.
 fn expression(line: &[u8], names: Names, inner: Inner, at: usize, level: usize) -> FormRead
     ensures { λ r. ⌜ a.formRead (now (line .entry)) r ≡ g.expression (now (line .entry)) (g.operand (now (line .entry)) names level) inner (g.lineWords (now (line .entry)) at) ⌝ }
 {
@@ -231,7 +232,17 @@ fn expression(line: &[u8], names: Names, inner: Inner, at: usize, level: usize) 
             inner: left,
         };
     }
-    let first = operand(line, names, inner, at, level);
+    let first = if is(Token::Name, word) {
+        let span = word.span;
+        OperandRead {
+            fits: true,
+            at: span.end,
+            clock: clock_at(line, names, span),
+            inner,
+        }
+    } else {
+        operand(line, names, inner, at, level)
+    };
     let between = first.inner;
     if !first.fits {
         return no_form(between);
@@ -240,6 +251,16 @@ fn expression(line: &[u8], names: Names, inner: Inner, at: usize, level: usize) 
     let kind = read.kind;
     if !is_kind(kind) {
         return no_form(between);
+    }
+    let next = word_at(line, read.at);
+    if is(Token::Name, next) {
+        let span = next.span;
+        return FormRead {
+            fits: true,
+            at: span.end,
+            constraint: sides(kind, first.clock, clock_at(line, names, span), Parameter(0)),
+            inner: between,
+        };
     }
     let second = operand(line, names, between, read.at, level);
     let left = second.inner;

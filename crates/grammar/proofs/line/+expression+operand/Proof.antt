@@ -3,6 +3,7 @@
 use mathlib.Core.Path.{_≡_, refl, sym, ap, _∙_}
 use mathlib.Core.Bool.{true, false}
 use mathlib.Core.List.{List}
+use mathlib.Core.Logic.{⊎-elim}
 use Prim.Native.Nat.{ℕ, _+_, _*_, _<_}
 use borrow.Author.Tests.{not-true, not-false}
 use borrow.Author.Needs.{needs}
@@ -11,12 +12,12 @@ use borrow.Fn.PlainCycle.{Measures, is as measured, falls, and}
 use denote.Ref.{now}
 use Rattle.text.specs.Split.{rest}
 use Rattle.text.specs.declared.Span.{Span}
-use Rattle.grammar.specs.Answers.{kindRead}
+use Rattle.grammar.specs.Answers.{operandRead, kindRead}
 use Rattle.grammar.specs.Grammar.{Operands, parsed, isKind, lineWords, token, operand as «operandOf»}
 use Rattle.grammar.specs.Tokens.{is}
 use Rattle.grammar.specs.declared.Inner.{Inner}
 use Rattle.grammar.specs.declared.Token.the-variants.{Digits, Await, Open}
-use Rattle.grammar.proofs.GrammarLaws.{word-token, second-token, after-second, operand-not, operand-is, form-not, form-is, await-none, await-operand, await-some, pair-none, pair-kind, pair-second, pair-some, operand-flat, operand-name, operand-inner}
+use Rattle.grammar.proofs.GrammarLaws.{word-token, second-token, after-second, operand-not, operand-is, form-not, form-is, await-none, await-operand, await-some, pair-none, pair-kind, pair-second, pair-some, operand-flat, operand-name, operand-inner, operand-read}
 use Rattle.grammar.proofs.line.expression.Reads as expression
 use Rattle.grammar.proofs.line.expression.Kinds as expression-kinds
 use Rattle.grammar.proofs.line.+expression+operand.Lts-expression as expression-lts
@@ -24,6 +25,7 @@ use Rattle.grammar.proofs.line.operand.Reads as operand
 use Rattle.grammar.proofs.line.operand.Kinds as operand-kinds
 use Rattle.grammar.proofs.line.+expression+operand.Lts-operand as operand-lts
 use Rattle.grammar.proofs.line.await_number.Reads as await-number-reads
+use Rattle.grammar.proofs.line.clock_at.Reads as clock-at-reads
 use Rattle.grammar.proofs.line.enclosed.Reads as enclosed-reads
 use Rattle.grammar.proofs.line.is_kind.Reads as is-kind-reads
 use Rattle.grammar.proofs.line.kind_at.Reads as kind-at-reads
@@ -56,7 +58,7 @@ operand-below m = and 1 operand-kinds.ps (falls 1 operand-kinds.ps _<_ μ-operan
 
 -- the contracts of the functions that each calls
 abbrev expression-calls : ℕ → expression-lts.Claims
-expression-calls m = (word-at-reads.Asked, word-at-reads.Learnt, is-reads.Asked, is-reads.Learnt, no-form-reads.Asked, no-form-reads.Learnt, operand-below m, operand.Post, part-reads.Asked, part-reads.Learnt, await-number-reads.Asked, await-number-reads.Learnt, sides-reads.Asked, sides-reads.Learnt, kind-at-reads.Asked, kind-at-reads.Learnt, is-kind-reads.Asked, is-kind-reads.Learnt)
+expression-calls m = (word-at-reads.Asked, word-at-reads.Learnt, is-reads.Asked, is-reads.Learnt, no-form-reads.Asked, no-form-reads.Learnt, operand-below m, operand.Post, part-reads.Asked, part-reads.Learnt, await-number-reads.Asked, await-number-reads.Learnt, sides-reads.Asked, sides-reads.Learnt, clock-at-reads.Asked, clock-at-reads.Learnt, kind-at-reads.Asked, kind-at-reads.Learnt, is-kind-reads.Asked, is-kind-reads.Learnt)
 
 abbrev operand-calls : ℕ → operand-lts.Claims
 operand-calls m = (word-at-reads.Asked, word-at-reads.Learnt, name-reads.Asked, name-reads.Learnt, is-reads.Asked, is-reads.Learnt, expression-below m, expression.Post, enclosed-reads.Asked, enclosed-reads.Learnt)
@@ -110,18 +112,26 @@ module _ (m : ℕ) where
     plain : is Await (token (text k) (words k)) ≡ false
     plain = let w = k .before .word-at in word-token (text k) _ (w .result) (w .ensures) Await false (sym (k .is .ensures) ∙ e .if1 .left)
 
-  module _ (e : expression-lts.Else4 (expression-calls m) (expression-at m) expression.Post) where
-    abbrev first : expression-lts.After-operand2 (expression-calls m) (expression-at m) expression.Post
-    first = e .before .before .before
-
+  -- the first operand, which is a name or what `operand` reads
+  module _ (j : expression-lts.Joined4 (expression-calls m) (expression-at m) expression.Post) where
     abbrev l : After-is
-    l = first .before .before
+    l = j .before .before .before
 
-    first-read : operands l (inner l) (words l) ≡ parsed (record { left = first .operand2 .result .inner; clock = first .operand2 .result .clock }) (lineWords (text l) (first .operand2 .result .at))
-    first-read = sym (first .operand2 .ensures) ∙ operand-is (text l) (first .operand2 .result) (not-false _ (e .if4 .left))
+    first-read : operandRead (text l) (j .if4 .first) ≡ operands l (inner l) (words l)
+    first-read =
+        let a = l .before .before .before .args in
+        let w = l .before .word-at in
+        ⊎-elim {C = operandRead (text l) (j .if4 .first) ≡ operands l (inner l) (words l)}
+        (λ x. ap (operandRead (text l)) (x .3) ∙ operand-is (text l) _ refl ∙ sym (operand-read (text l) (a .at) (w .result) (w .ensures) (a .names) (a .level) (inner l) _ (sym (j .before .is3 .ensures) ∙ x .0 .taken) (x .2 .ensures)))
+        (λ x. ap (operandRead (text l)) (x .2) ∙ x .1 .ensures)
+        (j .if4 .came)
 
-  kind-is : (e : expression-lts.Else5 (expression-calls m) (expression-at m) expression.Post) → isKind (e .before .before .kind-at .result .kind) ≡ true
-  kind-is e = sym (e .before .is-kind .ensures) ∙ not-false _ (e .if5 .left)
+  first-is : (e : expression-lts.Else5 (expression-calls m) (expression-at m) expression.Post) → let j = e .before .before .before in let i = j .before .before .before in
+      operands i (inner i) (words i) ≡ parsed (record { left = j .if4 .first .inner; clock = j .if4 .first .clock }) (lineWords (text i) (j .if4 .first .at))
+  first-is e = let j = e .before .before .before in sym (first-read j) ∙ operand-is _ (j .if4 .first) (not-false _ (e .if5 .left))
+
+  kind-is : (e : expression-lts.Else6 (expression-calls m) (expression-at m) expression.Post) → isKind (e .before .before .kind-at .result .kind) ≡ true
+  kind-is e = sym (e .before .is-kind .ensures) ∙ not-false _ (e .if6 .left)
 
   returns : expression-lts.Need-returns (expression-calls m) (expression-at m) expression.Post
   returns c =
@@ -158,44 +168,59 @@ module _ (m : ℕ) where
 
   returns-4 : expression-lts.Need-returns-4 (expression-calls m) (expression-at m) expression.Post
   returns-4 c =
-      let o = c .before .before .before .before in
-      let e = o .before in
+      let j = c .before .before .before .before in
+      let e = j .before .before in
       let i = e .before in
       form-not (text i) _ (c .no-form3 .ensures)
-      ∙ sym (pair-none _ (operands i) (inner i) (words i) (plain e) (sym (o .operand2 .ensures) ∙ operand-not (text i) (o .operand2 .result) (not-true _ (c .before .if4 .taken))))
+      ∙ sym (pair-none _ (operands i) (inner i) (words i) (plain e) (sym (first-read j) ∙ operand-not (text i) (j .if4 .first) (not-true _ (c .before .if5 .taken))))
 
   returns-5 : expression-lts.Need-returns-5 (expression-calls m) (expression-at m) expression.Post
   returns-5 c =
       let k = c .before .before in
       let f = k .before .before in
-      let e = f .before .before .before .before in
+      let e = f .before .before .before .before .before in
       let i = e .before in
       form-not (text i) _ (c .no-form4 .ensures)
-      ∙ sym (pair-kind _ (operands i) (inner i) (words i) (plain e) _ _ (first-read f) (kindRead (text i) (k .before .kind-at .result)) (k .before .kind-at .ensures) (sym (k .is-kind .ensures) ∙ not-true _ (c .before .if5 .taken)))
+      ∙ sym (pair-kind _ (operands i) (inner i) (words i) (plain e) _ _ (first-is f) (kindRead (text i) (k .before .kind-at .result)) (k .before .kind-at .ensures) (sym (k .is-kind .ensures) ∙ not-true _ (c .before .if6 .taken)))
 
   returns-6 : expression-lts.Need-returns-6 (expression-calls m) (expression-at m) expression.Post
   returns-6 c =
-      let o = c .before .before .before .before in
-      let g = o .before in
+      let n = c .before .before .before .before in
+      let v = n .before .word-at3 in
+      let g = n .before .before in
       let k = g .before .before in
       let f = k .before in
-      let e = f .before .before .before .before in
+      let e = f .before .before .before .before .before in
       let i = e .before in
-      form-not (text i) _ (c .no-form5 .ensures)
-      ∙ sym (pair-second _ (operands i) (inner i) (words i) (plain e) _ _ (first-read f) (kindRead (text i) (k .kind-at .result)) (k .kind-at .ensures) (kind-is g) (sym (o .operand3 .ensures) ∙ operand-not (text i) (o .operand3 .result) (not-true _ (c .before .if6 .taken))))
+      let s = i .before .before .before .args in
+      let named = operand-read (text i) (k .kind-at .result .at) (v .result) (v .ensures) (s .names) (s .level) _ _ (sym (n .is4 .ensures) ∙ c .before .before .before .if7 .taken) (c .before .clock-at2 .ensures) in
+      form-is (text i) _ refl
+      ∙ rw (c .sides2 .ensures)
+      (sym (pair-some _ (operands i) (inner i) (words i) (plain e) _ _ (first-is f) (kindRead (text i) (k .kind-at .result)) (k .kind-at .ensures) (kind-is g) _ _ named))
 
   returns-7 : expression-lts.Need-returns-7 (expression-calls m) (expression-at m) expression.Post
   returns-7 c =
-      let h = c .before in
-      let o = h .before .before .before in
-      let g = o .before in
+      let o = c .before .before .before .before in
+      let g = o .before .before .before .before in
       let k = g .before .before in
       let f = k .before in
-      let e = f .before .before .before .before in
+      let e = f .before .before .before .before .before in
+      let i = e .before in
+      form-not (text i) _ (c .no-form5 .ensures)
+      ∙ sym (pair-second _ (operands i) (inner i) (words i) (plain e) _ _ (first-is f) (kindRead (text i) (k .kind-at .result)) (k .kind-at .ensures) (kind-is g) (sym (o .operand3 .ensures) ∙ operand-not (text i) (o .operand3 .result) (not-true _ (c .before .if8 .taken))))
+
+  returns-8 : expression-lts.Need-returns-8 (expression-calls m) (expression-at m) expression.Post
+  returns-8 c =
+      let h = c .before in
+      let o = h .before .before .before in
+      let g = o .before .before .before .before in
+      let k = g .before .before in
+      let f = k .before in
+      let e = f .before .before .before .before .before in
       let i = e .before in
       form-is (text i) _ refl
-      ∙ rw (c .sides2 .ensures)
-      (sym (pair-some _ (operands i) (inner i) (words i) (plain e) _ _ (first-read f) (kindRead (text i) (k .kind-at .result)) (k .kind-at .ensures) (kind-is g) _ _ (sym (o .operand3 .ensures) ∙ operand-is (text i) (o .operand3 .result) (not-false _ (h .if6 .left)))))
+      ∙ rw (c .sides3 .ensures)
+      (sym (pair-some _ (operands i) (inner i) (words i) (plain e) _ _ (first-is f) (kindRead (text i) (k .kind-at .result)) (k .kind-at .ensures) (kind-is g) _ _ (sym (o .operand3 .ensures) ∙ operand-is (text i) (o .operand3 .result) (not-false _ (h .if8 .left)))))
 
 -- ---- an operand
 module _ (m : ℕ) where
@@ -246,6 +271,8 @@ pub +expression+operand-spec : {M : Type 1} → statement M
     (returns-3 m)
     (λ c κs. search needs)
     (λ c κs. search needs)
+    (λ c κs. search needs)
+    (λ c κs. search needs)
     (returns-4 m)
     (λ c κs. search needs)
     (λ c κs. search needs)
@@ -253,9 +280,14 @@ pub +expression+operand-spec : {M : Type 1} → statement M
     (returns-5 m)
     (λ c κs. search needs)
     (λ c κs. search needs)
+    (λ c κs. search needs)
+    (λ c κs. search needs)
     (returns-6 m)
     (λ c κs. search needs)
-    (returns-7 m))
+    (λ c κs. search needs)
+    (returns-7 m)
+    (λ c κs. search needs)
+    (returns-8 m))
     (λ m. operand-lts.spec (operand-calls m) (operand-at m) operand.Post
     (λ c κs. search needs)
     (λ c κs. search needs)
