@@ -7,7 +7,7 @@ use Prim.Native.Nat.{ℕ, suc, _+_, _-_, _≤_, _<_}
 use native.Mathlib.Decide.{decLt}
 use native.Mathlib.Numerals.{add-one}
 use native.Mathlib.Omega.{arith}
-use borrow.Author.Tests.{le-leb, lt-leb, le-ltb, lt-ltb}
+use borrow.Author.Tests.{not-true, le-leb, lt-leb, le-ltb, lt-ltb}
 use lib.Dec.{eqb, ltb, leb}
 use lib.ListN.{length, take, drop, getD, drop-of-length-le}
 use lib.Seq.{drop-cons}
@@ -18,6 +18,7 @@ use Rattle.limit.proofs.CheckLaws.{refuses, allows, stays-stopped, goes-to}
 use Rattle.constraint.specs.Meaning.{definedOf}
 use Rattle.constraint.specs.Ticks.{any, bits}
 use Rattle.constraint.specs.declared.Constraint.{Constraint}
+use Rattle.constraint.proofs.Booleans.{and-l, and-r}
 use Rattle.text.specs.Bytes.{inClass, passes, allBytes}
 use Rattle.text.specs.Split.{span, piecesAt, runEnd}
 use Rattle.text.specs.declared.Class.the-variants.{Newline, Printable}
@@ -104,6 +105,20 @@ module _ (t : List ℕ) (k i : ℕ) where
     pub paired-on : unpaired k (drop i t) ≡ (eqb (getD t i 0) 41 && eqb k 0 || unpaired (opened k (getD t i 0)) (drop (i + 1) t))
     unfolding unpaired
     paired-on = rw (drop-cons t i 0 h, add-one i)
+
+    -- a byte that is no parenthesis changes nothing, where it was found already that too many stand open
+    module _ (e : (not (eqb (getD t i 0) 40) && not (eqb (getD t i 0) 41)) ≡ true) where
+      opens-none : eqb (getD t i 0) 40 ≡ false
+      opens-none = not-true _ (and-l _ _ e)
+
+      closes-none : eqb (getD t i 0) 41 ≡ false
+      closes-none = not-true _ (and-r (not (eqb (getD t i 0) 40)) _ e)
+
+      pub deep-skip : (d : Bool) → (d || ltb 16 k) ≡ d → (d || tooDeep k (drop i t)) ≡ (d || tooDeep k (drop (i + 1) t))
+      deep-skip d q = rw (deep-on, opens-none, closes-none) (or-assoc d _ _ ∙ ap (λ (x : Bool). x || tooDeep k (drop (i + 1) t)) q)
+
+      pub paired-skip : unpaired k (drop i t) ≡ unpaired k (drop (i + 1) t)
+      paired-skip = rw (paired-on, opens-none, closes-none)
 
 -- ---- a sum that reaches a number, by what is left of it
 module _ (most one other : ℕ) where

@@ -65,6 +65,10 @@ fn parentheses(line: &[u8], from: usize) -> Pairing
     let mut i = from;
     while i < line.len() {
         let byte = line[i];
+        if (byte != 40) & (byte != 41) {
+            i += 1;
+            continue;
+        }
         alone = alone | ((byte == 41) & (many == 0));
         many = opened(many, byte);
         deep = deep | (16 < many);
