@@ -1,6 +1,7 @@
 pub mod BrokenRows
 pub mod ClocksDefined
 pub mod Determined
+pub mod KeyLaws
 pub mod LineAdded
 pub mod LineRows
 pub mod LineVerdict

@@ -18,7 +18,7 @@ use Rattle.limit.proofs.CheckLaws.{refuses, allows, stays-stopped, goes-to}
 use Rattle.constraint.specs.Meaning.{definedOf}
 use Rattle.constraint.specs.Ticks.{any, bits}
 use Rattle.constraint.specs.declared.Constraint.{Constraint}
-use Rattle.constraint.proofs.Booleans.{and-l, and-r}
+use Rattle.constraint.proofs.Booleans.{and-l, and-r, or-l, or-r}
 use Rattle.text.specs.Bytes.{inClass, passes, allBytes}
 use Rattle.text.specs.Split.{span, piecesAt, runEnd}
 use Rattle.text.specs.declared.Class.the-variants.{Newline, Printable}
@@ -51,6 +51,12 @@ module _ (p : Span → List Span → Bool) (ws : List Span) where
 
     pub any-on : p w us ≡ false → anyWord p ws ≡ anyWord p us
     any-on q = any-turn ∙ rw q
+
+    pub any-not : anyWord p ws ≡ false → p w us ≡ false
+    any-not q = or-l _ _ (sym any-turn ∙ q)
+
+    pub any-rest : anyWord p ws ≡ false → anyWord p us ≡ false
+    any-rest q = or-r (p w us) _ (sym any-turn ∙ q)
 
 -- ---- the three tests in one walk
 pub or-none : (x : Bool) → (x || false) ≡ x

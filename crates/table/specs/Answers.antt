@@ -1,8 +1,10 @@
 -- Of the code's shape: what a line's reader in code answers stands for; the checks 19 and 20 of a line's bytes, and 13, 14 and 15 of its words,
--- each asked in one walk over them. Assumes nothing.
-use mathlib.Core.Bool.{_||_}
-use mathlib.Core.List.{List}
-use Prim.Native.Nat.{ℕ}
+-- each asked in one walk over them; and the keys of names, by which 15 need not be asked. Assumes nothing.
+use mathlib.Core.Path.{_≡_}
+use mathlib.Core.Bool.{Bool, false, _||_}
+use mathlib.Core.List.{List, [], _∷_}
+use Prim.Native.Nat.{ℕ, _+_, _*_, _%_}
+use lib.Dec.{eqb}
 use Rattle.limit.specs.Checked.{Checked, checked}
 use Rattle.text.specs.declared.Span.{Span}
 use Rattle.forms.specs.Lines.{tooDeep, unpaired}
@@ -29,3 +31,22 @@ wordFlaws t w ws = record { long = longName t w ws; bad = badNumber t w ws; twic
 
 abbrev pub either : Flaws → Flaws → Flaws
 either a b = record { long = a .long || b .long; bad = a .bad || b .bad; twice = a .twice || b .twice }
+
+-- ---- names with different keys are different
+
+-- the key of some bytes behind others, which have the key k
+unfoldable pub keyFrom : ℕ → List ℕ → ℕ
+keyFrom k [] = k
+keyFrom k (b ∷ bs) = keyFrom (k % 36_028_797_018_963_968 * 257 + b) bs
+
+abbrev pub keyOf : List ℕ → ℕ
+keyOf name = keyFrom 0 name
+
+-- a number is one of some
+unfoldable pub among : List ℕ → ℕ → Bool
+among [] key = false
+among (k ∷ ks) key = eqb k key || among ks key
+
+-- where a test is not asked it fails
+abbrev pub Asked : (ask test : Bool) → Type 0
+Asked ask test = ask ≡ false → test ≡ false

@@ -80,10 +80,79 @@ fn parentheses(line: &[u8], from: usize) -> Pairing
     }
 }
 
-// Whether a word stands again among those from an offset on.
-fn stands_again(line: &[u8], word: Span, from: usize) -> bool
+// A number that equal names share, cut to 55 bits at each byte so that it fits.
+fn key_of(name: &[u8]) -> u64
+    ensures { λ r. ⌜ r ≡ a.keyOf (now (name .entry)) ⌝ }
+{
+    let mut sum: u64 = 0;
+    let mut i = 0;
+    while i < name.len() {
+        sum = sum % 36028797018963968 * 257 + name[i] as u64;
+        i += 1;
+    }
+    sum
+}
+
+// Whether a number is one of some.
+fn among(keys: &[u64], key: u64) -> bool
+    ensures { λ r. ⌜ r ≡ a.among (now (keys .entry)) key ⌝ }
+{
+    let mut i = 0;
+    while i < keys.len() {
+        if keys[i] == key {
+            return true;
+        }
+        i += 1;
+    }
+    false
+}
+
+// Whether two of the names from an offset on may be the same: no, where their keys differ and there is room for them.
+fn alike(line: &[u8], from: usize) -> bool
+    ensures { λ r. ⌜ a.Asked r (d.anyWord (d.twice (now (line .entry))) (lineWords (now (line .entry)) from)) ⌝ }
+{
+    let mut keys = [0u64; 512];
+    let mut count: usize = 0;
+    let mut at = from;
+    while at < line.len() {
+        if 512 <= count {
+            return true;
+        }
+        let word = word_at(line, at);
+        if word.span.end <= word.span.start {
+            return false;
+        }
+        at = word.span.end;
+        if is(Token::Name, word) {
+            let k = key_of(text::part(line, word.span));
+            if among(&keys[..count], k) {
+                return true;
+            }
+            keys[count] = k;
+            count += 1;
+        }
+    }
+    false
+}
+
+// Whether 15 is to be asked of the words from an offset on: with so many names that the line is refused, only where two may be the same.
+fn may_repeat(line: &[u8], many: bool, from: usize) -> bool
+    ensures { λ r. ⌜ a.Asked r (d.anyWord (d.twice (now (line .entry))) (lineWords (now (line .entry)) from)) ⌝ }
+{
+    if !many {
+        return true;
+    }
+    alike(line, from)
+}
+
+// Whether a word stands again among those from an offset on, where that is asked.
+fn stands_again(line: &[u8], ask: bool, word: Span, from: usize) -> bool
+    requires { ⌜ a.Asked ask (d.anyWord (d.sameAs (now line) (bytesOf (now line) word)) (lineWords (now line) from)) ⌝ }
     ensures { λ r. ⌜ r ≡ d.anyWord (d.sameAs (now (line .entry)) (bytesOf (now (line .entry)) word)) (lineWords (now (line .entry)) from) ⌝ }
 {
+    if !ask {
+        return false;
+    }
     let bytes = text::part(line, word);
     let mut at = from;
     while at < line.len() {
@@ -100,8 +169,9 @@ fn stands_again(line: &[u8], word: Span, from: usize) -> bool
 }
 
 // Which checks a word fails, by itself or with the words behind it.
-fn word_flaws(line: &[u8], word: WordRead) -> Flaws
+fn word_flaws(line: &[u8], ask: bool, word: WordRead) -> Flaws
     requires { ⌜ word .token ≡ tokenOf (bytesOf (now line) (word .span)) ⌝ }
+    requires { ⌜ a.Asked ask (d.twice (now line) (word .span) (lineWords (now line) (word .span .end))) ⌝ }
     ensures { λ r. ⌜ r ≡ a.wordFlaws (now (line .entry)) (word .span) (lineWords (now (line .entry)) (word .span .end)) ⌝ }
 {
     let span = word.span;
@@ -110,7 +180,7 @@ fn word_flaws(line: &[u8], word: WordRead) -> Flaws
         return Flaws {
             long: 16 < bytes.len(),
             bad: false,
-            twice: stands_again(line, span, span.end),
+            twice: stands_again(line, ask, span, span.end),
         };
     }
     if is(Token::Await, word) {
@@ -140,7 +210,8 @@ fn either(one: Flaws, other: Flaws) -> Flaws
 }
 
 // Which checks the words from an offset on fail.
-fn flaws(line: &[u8], from: usize) -> Flaws
+fn flaws(line: &[u8], ask: bool, from: usize) -> Flaws
+    requires { ⌜ a.Asked ask (d.anyWord (d.twice (now line)) (lineWords (now line) from)) ⌝ }
     ensures { λ r. ⌜ r ≡ a.flawsOf (now (line .entry)) (lineWords (now (line .entry)) from) ⌝ }
 {
     let mut found = Flaws {
@@ -154,7 +225,7 @@ fn flaws(line: &[u8], from: usize) -> Flaws
         if word.span.end <= word.span.start {
             return found;
         }
-        found = either(found, word_flaws(line, word));
+        found = either(found, word_flaws(line, ask, word));
         at = word.span.end;
     }
     found
@@ -230,7 +301,8 @@ fn read_words(line: &[u8], builder: Builder, place: Place, from: usize) -> LineR
     if !form.fits {
         return refuse(names, inner, Limit::LineForm, place);
     }
-    let failed = flaws(line, from);
+    let ask = may_repeat(line, names.over, from);
+    let failed = flaws(line, ask, from);
     if failed.long {
         return refuse(names, inner, Limit::NameLength, place);
     }

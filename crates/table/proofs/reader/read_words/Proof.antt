@@ -34,7 +34,7 @@ fits e = let f = e .before .before .before in sym (form f) ∙ form-is (now (sta
 -- what the words fail
 module _ (w : tie.After-flaws) where
   abbrev s : tie.Start
-  s = start (w .before .before .before .before)
+  s = start (w .before .before .before .before .before)
 
   long-is : w .flaws .result .long ≡ anyWord (longName (now (s .args .line))) (lineWords (now (s .args .line)) (s .args .from))
   long-is = ap (λ (x : Flaws). x .long) (w .flaws .ensures)
@@ -53,20 +53,20 @@ returns c =
 returns-2 : tie.Need-returns-2
 returns-2 c =
     let w = c .before .before in
-    c .refuse2 .ensures (s w .args .builder) ∙ sym (refused-13 _ _ _ _ _ _ _ _ (fits (w .before)) (sym (long-is w) ∙ c .before .if2 .taken))
+    c .refuse2 .ensures (s w .args .builder) ∙ sym (refused-13 _ _ _ _ _ _ _ _ (fits (w .before .before)) (sym (long-is w) ∙ c .before .if2 .taken))
 
 returns-3 : tie.Need-returns-3
 returns-3 c =
     let e = c .before .before in
     let w = e .before in
-    c .refuse3 .ensures (s w .args .builder) ∙ sym (refused-14 _ _ _ _ _ _ _ _ (fits (w .before)) (sym (long-is w) ∙ e .if2 .left) (sym (bad-is w) ∙ c .before .if3 .taken))
+    c .refuse3 .ensures (s w .args .builder) ∙ sym (refused-14 _ _ _ _ _ _ _ _ (fits (w .before .before)) (sym (long-is w) ∙ e .if2 .left) (sym (bad-is w) ∙ c .before .if3 .taken))
 
 returns-4 : tie.Need-returns-4
 returns-4 c =
     let f = c .before .before in
     let e = f .before in
     let w = e .before in
-    c .refuse4 .ensures (s w .args .builder) ∙ sym (refused-15 _ _ _ _ _ _ _ _ (fits (w .before)) (sym (long-is w) ∙ e .if2 .left) (sym (bad-is w) ∙ f .if3 .left) (sym (twice-is w) ∙ c .before .if4 .taken))
+    c .refuse4 .ensures (s w .args .builder) ∙ sym (refused-15 _ _ _ _ _ _ _ _ (fits (w .before .before)) (sym (long-is w) ∙ e .if2 .left) (sym (bad-is w) ∙ f .if3 .left) (sym (twice-is w) ∙ c .before .if4 .taken))
 
 returns-5 : tie.Need-returns-5
 returns-5 c =
@@ -75,8 +75,8 @@ returns-5 c =
     let e = f .before in
     let w = e .before in
     c .add-line .ensures
-    ∙ rw (w .before .before .before .before .before .before .with-words .ensures)
-    (sym (to-add _ _ _ _ _ _ _ _ (fits (w .before)) (sym (long-is w) ∙ e .if2 .left) (sym (bad-is w) ∙ f .if3 .left) (sym (twice-is w) ∙ g .if4 .left)))
+    ∙ rw (w .before .before .before .before .before .before .before .with-words .ensures)
+    (sym (to-add _ _ _ _ _ _ _ _ (fits (w .before .before)) (sym (long-is w) ∙ e .if2 .left) (sym (bad-is w) ∙ f .if3 .left) (sym (twice-is w) ∙ g .if4 .left)))
 
 pub read-words-spec : {M : Type 1} → statement M
 read-words-spec =
@@ -88,6 +88,7 @@ read-words-spec =
     (λ c κs. search needs)
     returns
     (λ c κs. search needs)
+    (λ c κs. c .may-repeat .ensures)
     (λ c κs. search needs)
     returns-2
     (λ c κs. search needs)

@@ -12,10 +12,14 @@ use Rattle.table.proofs.reader.word_flaws.Tie as tie
 
 -- what the two tests come to
 named : (i : tie.After-is) (x : Bool) → i .is .result ≡ x → (let s = i .before .before .before .args in is Name (tokenOf (bytesOf (now (s .line)) (s .word .span))) ≡ x)
-named i x e = ap (is Name) (sym (i .before .before .before .pre)) ∙ sym (i .is .ensures) ∙ e
+named i x e = ap (is Name) (sym (i .before .before .before .pre .0)) ∙ sym (i .is .ensures) ∙ e
 
 awaits : (i : tie.After-is2) (x : Bool) → i .is2 .result ≡ x → (let s = i .before .before .before .before .before .args in is Await (tokenOf (bytesOf (now (s .line)) (s .word .span))) ≡ x)
-awaits i x e = ap (is Await) (sym (i .before .before .before .before .before .pre)) ∙ sym (i .is2 .ensures) ∙ e
+awaits i x e = ap (is Await) (sym (i .before .before .before .before .before .pre .0)) ∙ sym (i .is2 .ensures) ∙ e
+
+-- the name does not stand again, where that is not asked
+stands-again-requires : tie.Need-stands-again-requires
+stands-again-requires c κs e = let d = c .before in rw (named (d .before) _ (d .if1 .taken)) at (d .before .before .before .before .pre .1 e)
 
 returns : tie.Need-returns
 returns c =
@@ -41,7 +45,7 @@ word-flaws-spec =
     (tie.spec
     (λ c κs. search needs)
     (λ c κs. search needs)
-    (λ c κs. search needs)
+    stands-again-requires
     returns
     (λ c κs. search needs)
     (λ c κs. search needs)
