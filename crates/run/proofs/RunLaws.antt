@@ -11,7 +11,6 @@ use Rattle.constraint.specs.Implicit.{completed}
 use Rattle.constraint.specs.Lists.{brokenWord}
 use Rattle.constraint.specs.Ticks.{Ticks, bits}
 use Rattle.constraint.specs.declared.Broken.the-variants.{Nowhere}
-use Rattle.constraint.specs.declared.Configuration.{Configuration}
 use Rattle.constraint.specs.declared.Constraint.{Constraint}
 use Rattle.constraint.proofs.ImplicitLaws.{completed-none}
 use Rattle.constraint.proofs.TickSets.{bits-zero}
@@ -22,7 +21,7 @@ use Rattle.limit.specs.declared.Check.the-variants.{Passed, Refused as Unread}
 use Rattle.table.specs.declared.TableRead.{TableRead}
 use Rattle.table.proofs.TableVerdict.{every-table-passes}
 use Rattle.limit.specs.declared.Refusal.{Refusal}
-use Rattle.recording.specs.Body.{unmarked, ended, refusedAt, Reading, endsWith, closing, onward, bodySteps}
+use Rattle.recording.specs.Body.{unmarked, Ending, Reading, endsWith, closing, onward, bodySteps}
 use Rattle.limit.specs.Checked.{passed}
 use Rattle.recording.specs.Answers.{headerAs}
 use Rattle.recording.specs.Header.{words, Header, opened}
@@ -32,101 +31,71 @@ use Rattle.recording.specs.declared.HeaderRead.{HeaderRead}
 use Rattle.recording.proofs.HeaderLaws.{opened-within}
 use Rattle.recording.specs.declared.Step.{Step}
 use Rattle.run.specs.Complete.{completeAll}
-use Rattle.run.specs.StepByStep.{goesOn, on, over, begins, settled, settles, closed, judgeOn, endOf}
-use Rattle.run.specs.Run.{Judging, afterStep, judgeAll, refused, recordsOf, startOf, zeros, ran, runTable, withTable, runOf}
+use Rattle.run.specs.StepByStep.{goesOn, verdictOf, Progress, begins, judgeOn, over}
+use Rattle.run.specs.Run.{endingSaid, afterStep, judgeAll, refused, recordsOf, startOf, zeros, ran, runTable, withTable, runOf}
 use Rattle.judging.specs.Step.{judged}
-use Rattle.run.specs.declared.Progress.{Progress}
 use Rattle.judging.specs.declared.Judged.{Judged}
-use Rattle.run.specs.declared.Next.{Next}
 use Rattle.judging.specs.declared.Outcome.{Outcome}
 use Rattle.judging.specs.declared.Outcome.the-variants.{Held, Failed, PastMillion}
 use Rattle.run.specs.declared.Verdict.{Verdict}
-use Rattle.run.specs.declared.Verdict.the-variants.{Accepted, Violated, Refused}
+use Rattle.run.specs.declared.Verdict.the-variants.{Accepted}
 use Rattle.judging.proofs.StepLaws.{judged-in-range}
 use Rattle.run.proofs.CompleteLaws.{judgeRest, one-step}
 
-module _ (named : ℕ) (rs : List Constraint) (b : Progress) where
-  -- ---- a step that is closed
-  module _ (o : Step) where
-    pub closed-none : o .begun ≡ false → closed named rs b o ≡ on b
-    unfolding closed
-    closed-none e = rw e
+-- ---- no step is left
 
-    pub closed-some : o .begun ≡ true → closed named rs b o ≡ settles rs b o (judged (bits (completed named rs (b .configuration .words) (o .ticks))) rs (b .configuration))
-    unfolding closed
-    closed-some e = rw e
+pub none-left : (named : ℕ) (rs : List Constraint) (b : Progress) (e : Ending)
+    → judgeOn named rs b (endsWith e) ≡ record { said = endingSaid e; steps = b .steps; configuration = b .configuration }
+unfolding judgeAll completeAll
+none-left named rs b e = refl
 
-    -- without ticks
-    pub closed-quiet : o .begun ≡ true → o .ticks ≡ 0 → brokenWord rs (b .configuration .words) ≡ Nowhere → closed named rs b o ≡ on (record { configuration = b .configuration; steps = record { 0 = b .steps .0 + 1 } })
-    closed-quiet e q inside =
-        let none-ticks = ap (λ (f : ℕ). bits (completed named rs (b .configuration .words) f)) q ∙ ap bits (completed-none named rs (b .configuration .words)) ∙ bits-zero in
-        closed-some e ∙ ap (settles rs b o) (ap (λ (F : Ticks). judged F rs (b .configuration)) none-ticks ∙ judged-none rs (b .configuration) inside)
+-- ---- a step that is closed
 
-    -- what is left to judge after it
-    left : Next → Reading → Judging
-    left n g = cond (goesOn (n .verdict)) (judgeOn named rs (n .progress) g) (endOf n)
+-- the run goes on after the step o, from d: the words are in range, there is at most one step more, and what is left to judge is what was
+pub record Goes (named : ℕ) (rs : List Constraint) (b : Progress) (o : Step) (d : Progress) : Type 0 where
+  pub ready : brokenWord rs (d .configuration .words) ≡ Nowhere
+  pub few : d .steps ≤ b .steps + 1
+  pub left : (g : Reading) → judgeOn named rs b (closing o g) ≡ judgeOn named rs d g
 
-    closed-left : (g : Reading) → judgeOn named rs b (closing o g) ≡ left (closed named rs b o) g
-    unfolding closed closing left
-    closed-left g = go (o .begun)
-      where
-        j : Judged
-        j = judged (bits (completed named rs (b .configuration .words) (o .ticks))) rs (b .configuration)
+module _ (named : ℕ) (rs : List Constraint) (b : Progress) (o : Step) where
+  -- no mark has begun it
+  pub unbegun-goes : o .begun ≡ false → brokenWord rs (b .configuration .words) ≡ Nowhere → Goes named rs b o b
+  unfolding closing
+  unbegun-goes e inside = record { ready = inside; few = omega arith; left = λ g. rw e }
 
-        step : (p : Outcome) (c : Configuration)
-            → afterStep rs (b .steps .0) o p (b .configuration) c (λ d. judgeRest named rs (g .ending) (suc (b .steps .0)) d (g .steps)) ≡ left (settled rs b o p c) g
-        step Held c = unfold afterStep in rw (add-one (b .steps .0))
-        step (Failed p) c = unfold afterStep in refl
-        step (PastMillion p) c = unfold afterStep in refl
+  -- it is judged, with the verdict v
+  module _ (e : o .begun ≡ true) (j : Judged) (q : j ≡ judged (bits (completed named rs (b .configuration .words) (o .ticks))) rs (b .configuration)) where
+    abbrev next : Progress
+    next = record { steps = b .steps + 1; configuration = j .configuration }
 
-        go : (x : Bool) → judgeOn named rs b (cond x (record { steps = o ∷ g .steps; ending = g .ending }) g) ≡ left (cond x (settles rs b o j) (on b)) g
-        go true = one-step named rs (g .ending) (b .steps .0) (b .configuration) o (g .steps) ∙ step (j .outcome) (j .configuration)
-        go false = refl
-
-    module _ (n : Next) (q : n ≡ closed named rs b o) where
-      pub closed-stop : (g : Reading) → goesOn (n .verdict) ≡ false → judgeOn named rs b (closing o g) ≡ endOf n
-      unfolding left
-      closed-stop g e = closed-left g ∙ rw (← q, e)
-
-      pub closed-on : (g : Reading) → goesOn (n .verdict) ≡ true → judgeOn named rs b (closing o g) ≡ judgeOn named rs (n .progress) g
-      unfolding left
-      closed-on g e = closed-left g ∙ rw (← q, e)
-
-      -- the end closes the open step too
-      pub closed-done : judgeOn named rs b (closing o (endsWith ended)) ≡ endOf n
-      closed-done = closed-left (endsWith ended) ∙ rw (← q) (go (n .verdict) (n .progress))
+    module _ (v : Verdict) (w : v ≡ verdictOf rs o (j .outcome)) where
+      judged-left : (g : Reading) → judgeOn named rs b (closing o g) ≡ cond (goesOn v) (judgeOn named rs next g) (over v b)
+      unfolding closing
+      judged-left g =
+          ap (λ (x : Bool). judgeOn named rs b (cond x (record { steps = o ∷ g .steps; ending = g .ending }) g)) e
+          ∙ one-step named rs (g .ending) (b .steps) (b .configuration) o (g .steps)
+          ∙ rw (← q, w) (go (j .outcome))
         where
-          go : (v : Verdict) (d : Progress) → left (record { verdict = v; progress = d }) (endsWith ended) ≡ endOf (record { verdict = v; progress = d })
-          go Accepted d = unfold left judgeAll completeAll in refl
-          go (Violated l t) d = unfold left in refl
-          go (Refused f) d = unfold left in refl
+          go : (p : Outcome)
+              → afterStep rs (b .steps) o p (b .configuration) (j .configuration) (λ d. judgeRest named rs (g .ending) (suc (b .steps)) d (g .steps))
+              ≡ cond (goesOn (verdictOf rs o p)) (judgeOn named rs next g) (over (verdictOf rs o p) b)
+          go Held = unfold afterStep in rw (add-one (b .steps))
+          go (Failed p) = unfold afterStep in refl
+          go (PastMillion p) = unfold afterStep in refl
 
-  -- ---- a word that breaks a limit
-  pub refused-stop : (f : Refusal) → judgeOn named rs b (endsWith (refusedAt (f .limit) (f .place .0))) ≡ endOf (over (Refused f) b)
-  unfolding judgeAll completeAll
-  refused-stop f = refl
+      pub judged-goes : goesOn v ≡ true → brokenWord rs (b .configuration .words) ≡ Nowhere → Goes named rs b o next
+      judged-goes h inside = record { ready = rw q (judged-in-range _ rs (b .configuration) inside); few = omega arith; left = λ g. judged-left g ∙ rw h }
 
--- ---- what every step keeps: words in range, and no more steps than bytes
+      pub judged-stops : goesOn v ≡ false → (g : Reading) → judgeOn named rs b (closing o g) ≡ over v b
+      judged-stops h g = judged-left g ∙ rw h
 
-pub record Kept (rs : List Constraint) (k : ℕ) (b : Progress) : Type 0 where
-  pub ready : brokenWord rs (b .configuration .words) ≡ Nowhere
-  pub few : b .steps .0 ≤ k
-
-pub kept-closed : (named : ℕ) (rs : List Constraint) (b : Progress) (o : Step) → brokenWord rs (b .configuration .words) ≡ Nowhere → Kept rs (b .steps .0 + 1) (closed named rs b o .progress)
-unfolding closed
-kept-closed named rs b o e = go (o .begun)
-  where
-    j : Judged
-    j = judged (bits (completed named rs (b .configuration .words) (o .ticks))) rs (b .configuration)
-
-    step : (p : Outcome) (c : Configuration) → brokenWord rs (c .words) ≡ Nowhere → Kept rs (b .steps .0 + 1) (settled rs b o p c .progress)
-    step Held c q = record { ready = q; few = omega arith }
-    step (Failed p) c q = record { ready = e; few = omega arith }
-    step (PastMillion p) c q = record { ready = e; few = omega arith }
-
-    go : (x : Bool) → Kept rs (b .steps .0 + 1) (cond x (settles rs b o j) (on b) .progress)
-    go true = step (j .outcome) (j .configuration) (judged-in-range _ rs (b .configuration) e)
-    go false = record { ready = e; few = omega arith }
+  -- without ticks every record holds, and no word moves
+  pub quiet-goes : o .begun ≡ true → o .ticks ≡ 0 → brokenWord rs (b .configuration .words) ≡ Nowhere
+      → Goes named rs b o (record { steps = b .steps + 1; configuration = b .configuration })
+  quiet-goes e q inside =
+      let none-ticks = ap (λ (f : ℕ). bits (completed named rs (b .configuration .words) f)) q ∙ ap bits (completed-none named rs (b .configuration .words)) ∙ bits-zero in
+      let held = ap (λ (F : Ticks). judged F rs (b .configuration)) none-ticks ∙ judged-none rs (b .configuration) inside in
+      judged-goes e _ (sym held) Accepted refl refl inside
 
 -- ---- the table and the header
 

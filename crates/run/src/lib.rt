@@ -28,15 +28,3 @@ pub struct Report {
     pub constraints: usize,
     pub configuration: Configuration,
 }
-
-// What was judged so far: the accepted steps, and the configuration after them.
-pub struct Progress {
-    pub configuration: Configuration,
-    pub steps: Steps,
-}
-
-// The verdict so far. The run goes on after `Accepted` alone.
-pub struct Next {
-    pub verdict: Verdict,
-    pub progress: Progress,
-}

@@ -1,29 +1,27 @@
 // The whole run: the table, the recording's header, and its body step by step.
-use super::Next;
-use super::Progress;
 use super::Report;
 use super::Steps;
 use super::Verdict;
-use super::step_by_step::close;
 use super::step_by_step::goes_on;
-use super::step_by_step::over;
+use super::step_by_step::verdict_of;
 use constraint::Clocks;
 use constraint::Configuration;
 use constraint::Constraint;
 use constraint::Word;
 use grammar::Table;
+use judging::judge;
 use limit::Check;
-use limit::Refusal;
 use recording::ChangesRead;
+use recording::Step;
 use recording::Turn;
 use recording::Variables;
 ghost use mathlib.Core.Path.{_≡_};
-ghost use Prim.Native.Nat.{_≤_};
+ghost use Prim.Native.Nat.{_+_, _≤_, _<_, _^_};
 ghost use lib.ListN.{length};
 ghost use Rattle.constraint.specs.Lists.{slots};
 ghost use Rattle.grammar.specs.Building.{clocksIn};
 ghost use Rattle.judging.specs.Code.{Ready};
-ghost use Rattle.recording.specs.Body.{bodySteps, unmarked};
+ghost use Rattle.recording.specs.Body.{bodySteps, closing, ended, endsWith, unmarked};
 ghost use Rattle.recording.specs.Header.{words};
 ghost use Rattle.recording.specs.Index.{Indexed, declared};
 ghost use Rattle.run.specs.StepByStep as f;
@@ -41,18 +39,39 @@ fn clocks_in(table: Table) -> Clocks
 }
 
 // What a run gives that is over.
-fn report(count: usize, next: Next) -> Report
-    ensures { λ r. ⌜ s.told r ≡ s.ran count (f.endOf next) ⌝ }
+fn report(count: usize, verdict: Verdict, steps: u64, configuration: Configuration) -> Report
+    ensures { λ r. ⌜ s.told r ≡ s.ran count (f.over verdict (record { steps = steps; configuration = configuration })) ⌝ }
 {
-    let verdict = next.verdict;
-    let steps = next.progress.steps;
-    let configuration = next.progress.configuration;
     Report {
         verdict,
-        steps,
+        steps: Steps(steps),
         constraints: count,
         configuration,
     }
+}
+
+// The last step, which the end closes, where a mark has begun one.
+fn judge_last(
+    records: [Constraint; 64],
+    count: usize,
+    clocks: Clocks,
+    configuration: Configuration,
+    steps: u64,
+    last: Step,
+) -> Report
+    requires { ⌜ Ready clocks records count (configuration .words) × (steps + 1 < 2 ^ 64) ⌝ }
+    ensures { λ r. ⌜ s.told r ≡ s.ran count (f.judgeOn (clocks .named) (slots count records) (record { steps = steps; configuration = configuration }) (closing last (endsWith ended))) ⌝ }
+{
+    if !last.begun {
+        return report(count, Verdict::Accepted, steps, configuration);
+    }
+    let judged = judge(records, count, clocks, configuration, last.ticks);
+    let outcome = judged.outcome;
+    let verdict = verdict_of(records, count, last, outcome);
+    if !goes_on(verdict) {
+        return report(count, verdict, steps, configuration);
+    }
+    report(count, Verdict::Accepted, steps + 1, judged.configuration)
 }
 
 // The body of a recording from an offset on, judged from a configuration.
@@ -68,10 +87,9 @@ fn judge_body(
     requires { ⌜ (length (now recording) ≤ 65536) × Indexed variables × Ready clocks records count (configuration .words) ⌝ }
     ensures { λ r. ⌜ s.told r ≡ s.ran count (f.judgeOn (clocks .named) (slots count records) (f.begins configuration) (bodySteps (declared variables) (now (recording .entry)) unmarked (words (now (recording .entry)) from))) ⌝ }
 {
-    let mut progress = Progress {
-        configuration,
-        steps: Steps(0),
-    };
+    // The configuration after the accepted steps, and their number.
+    let mut reached = configuration;
+    let mut steps: u64 = 0;
     let mut step = recording::unmarked();
     let mut at = from;
     loop {
@@ -86,22 +104,29 @@ fn judge_body(
         );
         match read {
             ChangesRead::Refused(refusal) => {
-                return report(count, over(Verdict::Refused(refusal), progress));
+                return report(count, Verdict::Refused(refusal), steps, reached);
             }
             ChangesRead::End(last) => {
-                return report(count, close(records, count, clocks, progress, last));
+                return judge_last(records, count, clocks, reached, steps, last);
             }
             ChangesRead::Mark(closed, mark) => {
-                let next = close(records, count, clocks, progress, closed);
-                let verdict = next.verdict;
-                if !goes_on(verdict) {
-                    return report(count, next);
+                if closed.begun {
+                    // Without ticks every record holds, and no word moves.
+                    if closed.ticks != 0 {
+                        let judged = judge(records, count, clocks, reached, closed.ticks);
+                        let outcome = judged.outcome;
+                        let verdict = verdict_of(records, count, closed, outcome);
+                        if !goes_on(verdict) {
+                            return report(count, verdict, steps, reached);
+                        }
+                        reached = judged.configuration;
+                    }
+                    steps += 1;
                 }
-                progress = next.progress;
                 let turn = recording::read_mark(recording, closed, mark);
                 match turn {
                     Turn::Refused(refusal) => {
-                        return report(count, over(Verdict::Refused(refusal), progress));
+                        return report(count, Verdict::Refused(refusal), steps, reached);
                     }
                     Turn::Passed(begun) => {
                         step = begun;
@@ -113,18 +138,6 @@ fn judge_body(
     }
 }
 
-// A run that is refused before its first step.
-fn refused(refusal: Refusal, constraints: usize, configuration: Configuration) -> Report
-    ensures { λ r. ⌜ r ≡ record { verdict = Verdict.Refused refusal; steps = record { 0 = 0 }; constraints = constraints; configuration = configuration } ⌝ }
-{
-    Report {
-        verdict: Verdict::Refused(refusal),
-        steps: Steps(0),
-        constraints,
-        configuration,
-    }
-}
-
 // The run of a recording against a table: document 01, "What the monitor does".
 pub fn run(table: &[u8], recording: &[u8]) -> Report
     ensures { λ r. ⌜ s.told r ≡ s.runOf (now (table .entry)) (now (recording .entry)) ⌝ }
@@ -132,8 +145,9 @@ pub fn run(table: &[u8], recording: &[u8]) -> Report
     let read = table::read_table(table);
     let outcome = read.outcome;
     if let Check::Refused(refusal) = outcome {
-        return refused(
-            refusal,
+        return report(
+            0,
+            Verdict::Refused(refusal),
             0,
             Configuration {
                 words: [Word(0); 64],
@@ -145,7 +159,12 @@ pub fn run(table: &[u8], recording: &[u8]) -> Report
     let header = recording::read_header(table, read.table.names, recording);
     let opened = header.outcome;
     if let Check::Refused(refusal) = opened {
-        return refused(refusal, read.table.count, configuration);
+        return report(
+            read.table.count,
+            Verdict::Refused(refusal),
+            0,
+            configuration,
+        );
     }
     judge_body(
         recording,

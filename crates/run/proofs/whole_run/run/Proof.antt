@@ -1,8 +1,7 @@
 -- `run` meets its contract: the table, the header, then the body. Assumes nothing.
-use mathlib.Core.Path.{sym, ap, _∙_}
+use mathlib.Core.Path.{sym, _∙_}
 use native.Mathlib.Omega.{arith}
 use denote.Ref.{now}
-use Rattle.run.specs.Run.{told}
 use Rattle.run.proofs.RunLaws.{table-refused, table-passes, header-refused, header-read, header-within}
 use borrow.Author.Needs.{needs}
 use Rattle.run.proofs.whole_run.run.Statement.{statement}
@@ -11,7 +10,7 @@ use Rattle.run.proofs.whole_run.run.Tie as tie
 returns : tie.Need-returns
 returns c =
     let q = c .before .before .before .before .read-table in
-    ap told (c .refused .ensures) ∙ sym (table-refused _ _ (q .result) (q .ensures) _ (c .before .before .outcome .given .1))
+    c .report .ensures ∙ sym (table-refused _ _ (q .result) (q .ensures) _ (c .before .before .outcome .given .1))
 
 read-header-requires : tie.Need-read-header-requires
 read-header-requires c κs =
@@ -24,7 +23,7 @@ returns-2 c =
     let h = c .before .before .before .before in
     let m = h .before .before .before in
     let q = m .before .before .read-table in
-    ap told (c .refused2 .ensures) ∙ rw (h .before .start-words .ensures) (sym (header-refused _ _ (q .result) (q .ensures) (m .enum-told .given .1) (h .read-header .result) (h .read-header .ensures .0) _ (c .before .before .opened .given .1)))
+    c .report2 .ensures ∙ rw (h .before .start-words .ensures) (sym (header-refused _ _ (q .result) (q .ensures) (m .enum-told .given .1) (h .read-header .result) (h .read-header .ensures .0) _ (c .before .before .opened .given .1)))
 
 clocks-in-requires : tie.Need-clocks-in-requires
 clocks-in-requires c κs =
