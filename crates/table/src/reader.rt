@@ -111,11 +111,11 @@ fn among(keys: &[u64], key: u64) -> bool
 fn alike(line: &[u8], from: usize) -> bool
     ensures { λ r. ⌜ a.Asked r (d.anyWord (d.twice (now (line .entry))) (lineWords (now (line .entry)) from)) ⌝ }
 {
-    let mut keys = [0u64; 512];
+    let mut keys = [0u64; 1024];
     let mut count: usize = 0;
     let mut at = from;
     while at < line.len() {
-        if 512 <= count {
+        if 1024 <= count {
             return true;
         }
         let word = word_at(line, at);

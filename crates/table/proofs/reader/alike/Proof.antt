@@ -26,7 +26,7 @@ use Rattle.table.proofs.reader.alike.Tie as tie
 
 abbrev Inv-loop : tie.InvT-loop
 Inv-loop line from keys₀ count₀ at₀ keys count at =
-    (length keys ≡ 512) × (alikeIn line (take count keys) (lineWords line at) ≡ alikeIn line [] (lineWords line from))
+    (length keys ≡ 1_024) × (alikeIn line (take count keys) (lineWords line at) ≡ alikeIn line [] (lineWords line from))
 
 abbrev μ-loop : tie.MeasureT-loop
 μ-loop line from keys₀ count₀ at₀ keys count at = length line - at
@@ -100,7 +100,7 @@ alike-spec =
     (tie.spec
     Inv-loop
     μ-loop
-    (λ c. (length-replicate {A = ℕ} 512 0, refl))
+    (λ c. (length-replicate {A = ℕ} 1_024 0, refl))
     (λ c e. absurd (true≢false e))
     (λ c κs. search needs)
     returns-2
