@@ -13,6 +13,7 @@ use Rattle.constraint.specs.declared.Clocks.{Clocks}
 use Rattle.constraint.specs.declared.Constraint.{Constraint}
 use Rattle.text.specs.Split.{span}
 use Rattle.grammar.specs.declared.Builder.{Builder}
+use Rattle.grammar.specs.declared.Implied.{Implied}
 use Rattle.grammar.specs.declared.Inner.{Inner}
 use Rattle.grammar.specs.declared.Names.{Names}
 use Rattle.grammar.specs.declared.Table.{Table}
@@ -35,9 +36,16 @@ start = record { records = emptyTable .records; count = 0; names = emptyTable .n
 abbrev pub defining : ℕ → Constraint → Constraint
 defining c r = record { kind = r .kind; defined = c; first = r .first; second = r .second; parameter = r .parameter; line = r .line }
 
+-- a right side that defines the implicit clock c, and the constraint that it is; neither is on a line yet
+abbrev pub implied : ℕ → Constraint → Implied
+implied c r = record { kind = r .kind; defined = c; first = r .first; second = r .second; parameter = r .parameter }
+
+abbrev pub whole : Implied → Constraint
+whole d = record { kind = d .kind; defined = d .defined; first = d .first; second = d .second; parameter = d .parameter; line = record { 0 = 0 } }
+
 -- before a line's first: the lines above have this many
 abbrev pub noInner : ℕ → Inner
-noInner implicit = record { clocks = implicit; records = replicate 32 empty; count = 0 }
+noInner implicit = record { clocks = implicit; records = replicate 32 (implied 0 empty); count = 0 }
 
 -- until all names are known they have the numbers from 32 on; they are counted to 33, which is more than any table may have
 abbrev pub provisional : ℕ → ℕ
@@ -51,10 +59,10 @@ abbrev pub withImplicit : Inner → Constraint → Inner
 withImplicit s r =
     cond (leb 32 (s .count))
     (record { clocks = counted (s .clocks); records = s .records; count = s .count })
-    (record { clocks = counted (s .clocks); records = set (s .records) (s .count) (defining (provisional (s .clocks)) r); count = s .count + 1 })
+    (record { clocks = counted (s .clocks); records = set (s .records) (s .count) (implied (provisional (s .clocks)) r); count = s .count + 1 })
 
 abbrev pub definitions : Inner → List Constraint
-definitions s = take (s .count) (s .records)
+definitions s = map whole (take (s .count) (s .records))
 
 -- ---- the constraints of a line
 

@@ -1,5 +1,6 @@
 // The table that is being built, and its implicit clocks.
 use super::Builder;
+use super::Implied;
 use super::Inner;
 use super::Names;
 use super::Table;
@@ -41,13 +42,44 @@ pub fn start() -> Builder
     }
 }
 
+// A right side as the definition of an implicit clock.
+fn implied(clock: u8, constraint: Constraint) -> Implied
+    ensures { λ r. ⌜ r ≡ d.implied clock constraint ⌝ }
+{
+    let kind = constraint.kind;
+    let parameter = constraint.parameter;
+    Implied {
+        kind,
+        defined: clock,
+        first: constraint.first,
+        second: constraint.second,
+        parameter,
+    }
+}
+
+// The constraint that such a definition is.
+fn whole(implied: Implied) -> Constraint
+    ensures { λ r. ⌜ r ≡ d.whole implied ⌝ }
+{
+    let kind = implied.kind;
+    let parameter = implied.parameter;
+    Constraint {
+        kind,
+        defined: implied.defined,
+        first: implied.first,
+        second: implied.second,
+        parameter,
+        line: Place(0),
+    }
+}
+
 // Before a line's first implicit clock, where the lines above have this many.
 pub fn no_inner(implicit: usize) -> Inner
     ensures { λ r. ⌜ r ≡ d.noInner implicit ⌝ }
 {
     Inner {
         clocks: implicit,
-        records: [constraint::empty(); 32],
+        records: [implied(0, constraint::empty()); 32],
         count: 0,
     }
 }
@@ -82,9 +114,7 @@ pub fn with_implicit(inner: Inner, constraint: Constraint) -> Inner
     if 32 <= k {
         return more;
     }
-    let mut own = constraint;
-    own.defined = provisional(inner.clocks);
-    more.records[k] = own;
+    more.records[k] = implied(provisional(inner.clocks), constraint);
     more.count = k + 1;
     more
 }
@@ -116,8 +146,8 @@ fn with_definitions(place: Place, builder: Builder, inner: Inner) -> Builder
         if 32 <= i {
             return more;
         }
-        let constraint = inner.records[i];
-        more = with_constraint(place, more, constraint);
+        let implied = inner.records[i];
+        more = with_constraint(place, more, whole(implied));
         i += 1;
     }
     more

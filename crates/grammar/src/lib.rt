@@ -13,6 +13,7 @@ pub use building::start;
 pub use building::with_line;
 use constraint::Constraint;
 use constraint::Kind;
+use constraint::Parameter;
 pub use line::await_number;
 pub use line::line_form;
 pub use naming::find_name;
@@ -71,10 +72,19 @@ pub struct Builder {
     pub implicit: usize,
 }
 
+// The definition of an implicit clock, on no line yet.
+pub struct Implied {
+    pub kind: Kind,
+    pub defined: u8,
+    pub first: u8,
+    pub second: u8,
+    pub parameter: Parameter,
+}
+
 // How many implicit clocks there are so far, in the lines above and in the line at hand, and the definitions of those that the line has.
 pub struct Inner {
     pub clocks: usize,
-    pub records: [Constraint; 32],
+    pub records: [Implied; 32],
     pub count: usize,
 }
 

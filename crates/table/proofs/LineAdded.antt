@@ -8,7 +8,7 @@ use native.Mathlib.Nat.{le-refl}
 use native.Mathlib.Omega.{arith}
 use borrow.Author.Tests.{ltb-false, le-ltb, lt-leb}
 use lib.Dec.{leb}
-use lib.ListN.{length, length-append, length-map, length-take}
+use lib.ListN.{length, length-append, length-map}
 use Rattle.constraint.specs.Lists.{slots}
 use Rattle.constraint.specs.Meaning.{definedBy, definedOf}
 use Rattle.constraint.specs.Ticks.{bits, withTick, withTicks}
@@ -21,6 +21,7 @@ use Rattle.grammar.specs.Building.{noInner, definitions, onItsLine, withConstra
 use Rattle.grammar.specs.declared.Builder.{Builder}
 use Rattle.grammar.specs.declared.Inner.{Inner}
 use Rattle.grammar.specs.declared.Names.{Names}
+use Rattle.grammar.proofs.BuildingLaws.{length-definitions}
 use Rattle.forms.specs.Forms.{Word, Words, Line, wordsOf, oneOf, both, awaits, Form, relates, defines, Operand, levels, HasForm}
 use Rattle.forms.specs.Lines.{namesIn, pairsIn, constraintsIn, withNames, awaitNumbers, clockNames, pairs, constraints, Some, DefinesClock, standing, formImplicits, recordsOf}
 use Rattle.forms.proofs.BlankLines.{form-filled}
@@ -182,7 +183,7 @@ module _ (t : List ℕ) (at : ℕ) (above : List Line) (l : Line) (ms : Words) (
         sizes : (i : Inner) (f : Form Operand) → i .count ≡ formImplicits f → length (i .records) ≡ 32 → formImplicits f ≤ b .implicit + formImplicits f → i .clocks ≡ b .implicit + formImplicits f → HasForm l f → length us + pairs (above ++ l ∷ []) ≤ 32 → constraints (above ++ l ∷ []) ≤ 64
             → (length rs + length (definitions i) ≤ 64) × (length (rs ++ map (onItsLine n) (definitions i)) < 64) × (length (rs ++ map (onItsLine n) (definitions i)) + 1 ≡ constraints (above ++ l ∷ [])) × (i .clocks ≡ pairs (above ++ l ∷ []))
         sizes i f c k j d h room most =
-            let a : length (definitions i) ≡ min (i .count) (length (i .records)) = length-take (i .count) (i .records) in
+            let a : length (definitions i) ≡ min (i .count) (length (i .records)) = length-definitions i in
             let e : length (rs ++ map (onItsLine n) (definitions i)) ≡ length rs + length (map (onItsLine n) (definitions i)) = length-append rs (map (onItsLine n) (definitions i)) in
             let p : length (map (onItsLine n) (definitions i)) ≡ length (definitions i) = length-map (definitions i) (onItsLine n) in
             let o : constraints (above ++ l ∷ []) ≡ constraints above + suc (pairsIn (wordsOf l)) = one-more above l (form-filled h) in

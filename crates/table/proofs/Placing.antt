@@ -8,14 +8,15 @@ use native.Mathlib.Numerals.{add-one}
 use native.Mathlib.Omega.{arith}
 use borrow.Author.Tests.{lt-ltb, ltb-true, ltb-false, lt-leb, leb-false}
 use lib.Dec.{ltb, leb}
-use lib.ListN.{length, set, length-set}
+use lib.ListN.{length, take, set, length-set}
 use lib.Seq.{take-suc-set}
 use Rattle.constraint.specs.declared.Constraint.{Constraint}
 use Rattle.constraint.specs.declared.Definition.{Definition}
 use Rattle.constraint.specs.declared.Definition.the-variants.{Await as AwaitKind}
 use Rattle.constraint.specs.declared.Kind.the-variants.{Defines}
-use Rattle.grammar.specs.Building.{defining, noInner, provisional, counted, withImplicit, definitions, onItsLine}
+use Rattle.grammar.specs.Building.{defining, implied, whole, noInner, provisional, counted, withImplicit, definitions, onItsLine}
 use Rattle.grammar.specs.Grammar.{Formed, sides}
+use Rattle.grammar.specs.declared.Implied.{Implied}
 use Rattle.grammar.specs.declared.Inner.{Inner}
 use Rattle.grammar.specs.declared.Names.{Names}
 use Rattle.forms.specs.Forms.{Word, Words, oneOf, both, awaits, Form, relates, defines, Operand, name, both-inside, awaits-inside}
@@ -36,7 +37,7 @@ counted-one j m e = go (ltb j 33) refl
 with-clocks : (s : Inner) (r : Constraint) → withImplicit s r .clocks ≡ counted (s .clocks)
 with-clocks s r = go (leb 32 (s .count))
   where
-    go : (x : Bool) → cond {A = Inner} x (record { clocks = counted (s .clocks); records = s .records; count = s .count }) (record { clocks = counted (s .clocks); records = set (s .records) (s .count) (defining (provisional (s .clocks)) r); count = s .count + 1 }) .clocks ≡ counted (s .clocks)
+    go : (x : Bool) → cond {A = Inner} x (record { clocks = counted (s .clocks); records = s .records; count = s .count }) (record { clocks = counted (s .clocks); records = set (s .records) (s .count) (implied (provisional (s .clocks)) r); count = s .count + 1 }) .clocks ≡ counted (s .clocks)
     go true = refl
     go false = refl
 
@@ -119,15 +120,16 @@ module _ (t : List ℕ) (ns : Names) (us : Words) (n : ℕ) (number : (w : Word)
   with-stands s m j ds r h k =
       let e : leb 32 (s .count) ≡ false = lt-leb 32 (s .count) (omega (arith, h .count, h .fewer)) in
       let c : ltb (s .clocks) 33 ≡ true = lt-ltb (s .clocks) 33 (omega (arith, h .clocks)) in
-      let d : definitions (record { clocks = s .clocks + 1; records = set (s .records) (s .count) (defining (32 + s .clocks) r); count = s .count + 1 }) ≡ definitions s ++ defining (32 + s .clocks) r ∷ [] =
-      rw (add-one (s .count)) (take-suc-set (s .records) (s .count) (defining (32 + s .clocks) r) (omega (arith, h .count, h .fewer, h .room))) in
+      let i : Implied = implied (32 + s .clocks) r in
+      let d : definitions (record { clocks = s .clocks + 1; records = set (s .records) (s .count) i; count = s .count + 1 }) ≡ definitions s ++ whole i ∷ [] =
+      rw (add-one (s .count)) (ap (map whole) (take-suc-set (s .records) (s .count) i (omega (arith, h .count, h .fewer, h .room))) ∙ map-append whole (take (s .count) (s .records)) (i ∷ [])) in
       rw (e, c) (record {
         clocks = ap (λ (i : ℕ). i + 1) (h .clocks);
         count = ap (λ (i : ℕ). i + 1) (h .count);
         fewer = omega (arith, h .fewer);
         room = length-set (s .records) (s .count) _ ∙ h .room;
-        records = ap (map (onItsLine n)) d ∙ map-append (onItsLine n) (definitions s) (defining (32 + s .clocks) r ∷ []) ∙ rw (h .records, h .clocks);
-        high = subst High (sym d) (high-more (definitions s) (defining (32 + s .clocks) r) (h .high) (omega arith));
+        records = ap (map (onItsLine n)) d ∙ map-append (onItsLine n) (definitions s) (whole i ∷ []) ∙ rw (h .records, h .clocks);
+        high = subst High (sym d) (high-more (definitions s) (whole i) (h .high) (omega arith));
       })
 
   -- ---- operands

@@ -7,4 +7,5 @@ no-inner-spec =
     tie.close
     (tie.spec
     (λ c κs. tt)
-    (λ c. rw (c .empty .ensures)))
+    (λ c κs. tt)
+    (λ c. rw (c .implied .ensures, c .before .empty .ensures)))

@@ -31,11 +31,12 @@ returns c =
 
 loop-again : tie.Need-loop-again Inv-loop μ-loop
 loop-again c =
-    let e = c .before .before in
+    let w = c .before in
+    let e = w .before .before in
     let n = e .before in
     let l = n .before in
     let s = l .before .args in
-    (omega arith, rw (c .with-constraint .ensures) (sym (definition-on (s .place .0) (l .loop .more) (s .t3) (l .loop .i) _ (n .loop-test .taken) (omega (arith, room l, e .if1 .left))) ∙ l .loop .inv .1))
+    (omega arith, rw (c .with-constraint .ensures, w .whole .ensures) (sym (definition-on (s .place .0) (l .loop .more) (s .t3) (l .loop .i) _ (n .loop-test .taken) (omega (arith, room l, e .if1 .left))) ∙ l .loop .inv .1))
 
 returns-2 : tie.Need-returns-2 Inv-loop μ-loop
 returns-2 c =
@@ -54,6 +55,7 @@ with-definitions-spec =
     returns
     (λ c. search needs)
     (λ c. search needs)
+    (λ c κs. tt)
     (λ c κs. search needs)
     (λ c. search needs)
     (λ c. search needs)

@@ -11,9 +11,10 @@ returns c =
 
 returns-2 : tie.Need-returns-2
 returns-2 c =
-    let e = c .before in
+    let p = c .before in
+    let e = p .before in
     let k = e .before in
-    rw (lt-leb 32 (k .before .args .inner .count) (e .if1 .left), k .counted .ensures, c .provisional .ensures)
+    rw (lt-leb 32 (k .before .args .inner .count) (e .if1 .left), k .counted .ensures, c .implied .ensures, p .provisional .ensures)
 
 pub with-implicit-spec : {M : Type 1} → statement M
 with-implicit-spec =
@@ -21,6 +22,7 @@ with-implicit-spec =
     (tie.spec
     (λ c κs. tt)
     returns
+    (λ c κs. tt)
     (λ c κs. tt)
     (λ c. search needs)
     (λ c. search needs)
