@@ -34,7 +34,7 @@ const NAMED: u32 = 16;
 const TABLE_BYTES: usize = 4096;
 
 /// The names of the workloads.
-pub const WORKLOADS: [&str; 11] = [
+pub const WORKLOADS: [&str; 12] = [
     "dense",
     "wide",
     "marks",
@@ -42,6 +42,7 @@ pub const WORKLOADS: [&str; 11] = [
     "read_flat",
     "read_deep",
     "read_names",
+    "read_twice",
     "read_words",
     "read_openers",
     "step",
@@ -61,6 +62,7 @@ Tables that are read alone, by their size in bytes:
 - read_flat: 64 lines without parentheses
 - read_deep: one line of expressions sixteen deep, refused with 17
 - read_names: one line of as many different names as fit, refused with 17
+- read_twice: the same, the last two the same, refused with 15
 - read_words: one line of as many names as fit, and nothing else, refused with 12
 - read_openers: one line of opening parentheses, refused with 19
 
@@ -115,6 +117,7 @@ pub fn input(workload: &str, size: usize) -> Option<Input> {
         "read_flat" => read(flat_text(), 0, size),
         "read_deep" => read(deep_text(), 17, size),
         "read_names" => read(names_text(), 17, size),
+        "read_twice" => read(twice_text(), 15, size),
         "read_words" => read("a ".repeat(TABLE_BYTES / 2), 12, size),
         "read_openers" => read("(".repeat(TABLE_BYTES), 19, size),
         "step" => Some(records(size)).map(|(numbers, records)| Input::Step {
@@ -251,6 +254,15 @@ fn deep_text() -> String {
 /// A line in which as many names fit as can be: both operands have as many.
 fn names_text() -> String {
     line(|names| names / 2)
+}
+
+/// The same, where the last name is the one before it.
+fn twice_text() -> String {
+    let text = names_text();
+    let (before, last) = text.rsplit_once("lub ").expect("two operands");
+    let (_, name) = before.trim_end().rsplit_once('(').expect("an expression");
+    let behind = last.trim_start_matches(char::is_alphabetic);
+    format!("{before}lub {name}{behind}")
 }
 
 fn declarations(clocks: u32) -> String {
