@@ -1,7 +1,7 @@
 -- The checks of a line's words, word by word; the checks of a line, one by one; and the lines of a table, line by line.
 -- Assumes nothing.
 use mathlib.Core.Path.{_≡_, refl, sym, ap, _∙_}
-use mathlib.Core.Bool.{Bool, true, false, not, cond, _&&_, _||_}
+use mathlib.Core.Bool.{Bool, true, false, not, cond, _&&_, _||_, and-false, or-true, and-or-distrib-left}
 use mathlib.Core.List.{List, [], _∷_}
 use Prim.Native.Nat.{ℕ, suc, _+_, _-_, _≤_, _<_}
 use native.Mathlib.Decide.{decLt}
@@ -18,7 +18,7 @@ use Rattle.limit.proofs.CheckLaws.{refuses, allows, stays-stopped, goes-to}
 use Rattle.constraint.specs.Meaning.{definedOf}
 use Rattle.constraint.specs.Ticks.{any, bits}
 use Rattle.constraint.specs.declared.Constraint.{Constraint}
-use Rattle.constraint.proofs.Booleans.{and-l, and-r, or-l, or-r}
+use Rattle.constraint.proofs.Booleans.{and-l, and-r}
 use Rattle.text.specs.Bytes.{inClass, passes, allBytes}
 use Rattle.text.specs.Split.{span, piecesAt, runEnd}
 use Rattle.text.specs.declared.Class.the-variants.{Newline, Printable}
@@ -31,9 +31,11 @@ use Rattle.grammar.specs.declared.Builder.{Builder}
 use Rattle.grammar.specs.declared.Inner.{Inner}
 use Rattle.grammar.specs.declared.Names.{Names}
 use Rattle.grammar.specs.declared.Table.{Table}
-use Rattle.table.specs.Answers.{flawsOf, wordFlaws, either}
+use Rattle.table.specs.Answers.{flawsOf, wordFlaws, either, Tells, asks, settled}
 use Rattle.table.specs.Reader.{anyWord, longName, badNumber, twice, manyClocks, manyConstraints, addLine, formStep, wordsStep, filledStep, blank, lineStep, tellOf, readLines, mostBytes, readTable}
 use Rattle.table.specs.declared.Flaws.{Flaws}
+use Rattle.table.specs.declared.Repeats.{Repeats}
+use Rattle.table.specs.declared.Repeats.the-variants.{Perhaps, Never, Surely}
 
 -- ---- a test of some word
 module _ (p : Span → List Span → Bool) (ws : List Span) where
@@ -52,11 +54,8 @@ module _ (p : Span → List Span → Bool) (ws : List Span) where
     pub any-on : p w us ≡ false → anyWord p ws ≡ anyWord p us
     any-on q = any-turn ∙ rw q
 
-    pub any-not : anyWord p ws ≡ false → p w us ≡ false
-    any-not q = or-l _ _ (sym any-turn ∙ q)
-
-    pub any-rest : anyWord p ws ≡ false → anyWord p us ≡ false
-    any-rest q = or-r (p w us) _ (sym any-turn ∙ q)
+    pub any-more : anyWord p us ≡ true → anyWord p ws ≡ true
+    any-more q = any-turn ∙ rw q (or-true (p w us))
 
 -- ---- the three tests in one walk
 pub or-none : (x : Bool) → (x || false) ≡ x
@@ -74,16 +73,24 @@ either-assoc a b c = λ i. record {
   twice = or-assoc (a .twice) (b .twice) (c .twice) i;
 }
 
-module _ (t : List ℕ) (f : Flaws) (ws : List Span) where
-  pub flaws-done : ws ≡ [] → either f (flawsOf t ws) ≡ f
-  flaws-done e = rw (any-done (longName t) ws e, any-done (badNumber t) ws e, any-done (twice t) ws e, or-none (f .long), or-none (f .bad), or-none (f .twice))
+module _ (t : List ℕ) (ask : Bool) (f : Flaws) (ws : List Span) where
+  pub flaws-done : ws ≡ [] → either f (flawsOf t ask ws) ≡ f
+  flaws-done e =
+      rw (any-done (longName t) ws e, any-done (badNumber t) ws e, any-done (twice t) ws e, and-false ask, or-none (f .long), or-none (f .bad), or-none (f .twice))
 
   module _ (w : Span) (us : List Span) (e : ws ≡ w ∷ us) where
-    flaws-turn : flawsOf t ws ≡ either (wordFlaws t w us) (flawsOf t us)
-    flaws-turn = rw (any-turn (longName t) ws w us e, any-turn (badNumber t) ws w us e, any-turn (twice t) ws w us e)
+    flaws-turn : flawsOf t ask ws ≡ either (wordFlaws t ask w us) (flawsOf t ask us)
+    flaws-turn =
+        rw (any-turn (longName t) ws w us e, any-turn (badNumber t) ws w us e, any-turn (twice t) ws w us e, and-or-distrib-left ask (twice t w us) (anyWord (twice t) us))
 
-    pub flaws-on : either f (flawsOf t ws) ≡ either (either f (wordFlaws t w us)) (flawsOf t us)
-    flaws-on = ap (either f) flaws-turn ∙ either-assoc f (wordFlaws t w us) (flawsOf t us)
+    pub flaws-on : either f (flawsOf t ask ws) ≡ either (either f (wordFlaws t ask w us)) (flawsOf t ask us)
+    flaws-on = ap (either f) flaws-turn ∙ either-assoc f (wordFlaws t ask w us) (flawsOf t ask us)
+
+-- what is known of a test, and what is found where it is asked, settle it
+pub settles : (known : Repeats) (test : Bool) → Tells known test → settled known (asks known && test) ≡ test
+settles Perhaps test h = refl
+settles Never test h = sym h
+settles Surely test h = sym h
 
 -- ---- parentheses, byte by byte
 pub opened-most : (k b : ℕ) → opened k b ≤ k + 1

@@ -1,7 +1,7 @@
 -- Of the code's shape: what a line's reader in code answers stands for; the checks 19 and 20 of a line's bytes, and 13, 14 and 15 of its words,
--- each asked in one walk over them; and the keys of names, by which 15 need not be asked. Assumes nothing.
+-- each asked in one walk over them; and the keys of names, by which 15 may be known before it is asked. Assumes nothing.
 use mathlib.Core.Path.{_≡_}
-use mathlib.Core.Bool.{Bool, false, _||_}
+use mathlib.Core.Bool.{Bool, true, false, _&&_, _||_}
 use mathlib.Core.List.{List, [], _∷_}
 use Prim.Native.Nat.{ℕ, _+_, _*_, _%_}
 use lib.Dec.{eqb}
@@ -14,6 +14,8 @@ use Rattle.table.specs.Reader.{anyWord, longName, badNumber, twice}
 use Rattle.table.specs.declared.Flaws.{Flaws}
 use Rattle.table.specs.declared.LineRead.{LineRead}
 use Rattle.table.specs.declared.Pairing.{Pairing}
+use Rattle.table.specs.declared.Repeats.{Repeats}
+use Rattle.table.specs.declared.Repeats.the-variants.{Perhaps, Never, Surely}
 
 -- the table so far with what a line says
 abbrev pub lineRead : ℕ → Builder → LineRead → Checked Builder
@@ -22,12 +24,12 @@ lineRead n b r = checked (r .outcome) (withLine n b (r .names) (r .inner) (r .co
 abbrev pub pairing : List ℕ → Pairing
 pairing l = record { deep = tooDeep 0 l; unpaired = unpaired 0 l }
 
--- of some words, one of which is to fail; of one word, with those after it; and of either
-abbrev pub flawsOf : List ℕ → List Span → Flaws
-flawsOf t ws = record { long = anyWord (longName t) ws; bad = anyWord (badNumber t) ws; twice = anyWord (twice t) ws }
+-- of some words, one of which is to fail; of one word, with those after it; and of either. 15 fails only where it is asked
+abbrev pub flawsOf : List ℕ → (ask : Bool) → List Span → Flaws
+flawsOf t ask ws = record { long = anyWord (longName t) ws; bad = anyWord (badNumber t) ws; twice = ask && anyWord (twice t) ws }
 
-abbrev pub wordFlaws : List ℕ → Span → List Span → Flaws
-wordFlaws t w ws = record { long = longName t w ws; bad = badNumber t w ws; twice = twice t w ws }
+abbrev pub wordFlaws : List ℕ → (ask : Bool) → Span → List Span → Flaws
+wordFlaws t ask w ws = record { long = longName t w ws; bad = badNumber t w ws; twice = ask && twice t w ws }
 
 abbrev pub either : Flaws → Flaws → Flaws
 either a b = record { long = a .long || b .long; bad = a .bad || b .bad; twice = a .twice || b .twice }
@@ -47,6 +49,18 @@ unfoldable pub among : List ℕ → ℕ → Bool
 among [] key = false
 among (k ∷ ks) key = eqb k key || among ks key
 
--- where a test is not asked it fails
-abbrev pub Asked : (ask test : Bool) → Type 0
-Asked ask test = ask ≡ false → test ≡ false
+-- ---- what is known of a test before it is asked: it is asked only where nothing is known
+abbrev pub Tells : Repeats → (test : Bool) → Type 0
+Tells Perhaps test = Unit {0}
+Tells Never test = test ≡ false
+Tells Surely test = test ≡ true
+
+abbrev pub asks : Repeats → Bool
+asks Perhaps = true
+asks Never = false
+asks Surely = false
+
+abbrev pub settled : Repeats → (found : Bool) → Bool
+settled Perhaps found = found
+settled Never found = false
+settled Surely found = true

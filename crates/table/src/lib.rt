@@ -29,6 +29,13 @@ pub struct Flaws {
     pub twice: bool,
 }
 
+// Whether a name stands twice in a line, as far as the keys of its names tell.
+pub enum Repeats {
+    Perhaps,
+    Never,
+    Surely,
+}
+
 // What a line says: the first refusal, or its constraint, the names with those of the line, and its implicit clocks.
 pub struct LineRead {
     pub outcome: Check,

@@ -2,6 +2,7 @@
 use super::Flaws;
 use super::LineRead;
 use super::Pairing;
+use super::Repeats;
 use super::TableRead;
 use constraint::Constraint;
 use grammar::Builder;
@@ -26,6 +27,7 @@ use limit::Refusal;
 use text::Class;
 use text::Span;
 ghost use mathlib.Core.Path.{_≡_};
+ghost use mathlib.Core.Bool.{true, _&&_};
 ghost use Prim.Native.Nat.{_+_, _<_, _^_};
 ghost use lib.Dec.{leb};
 ghost use lib.ListN.{drop};
@@ -107,48 +109,9 @@ fn among(keys: &[u64], key: u64) -> bool
     false
 }
 
-// Whether two of the names from an offset on may be the same: no, where their keys differ and there is room for them.
-fn alike(line: &[u8], from: usize) -> bool
-    ensures { λ r. ⌜ a.Asked r (d.anyWord (d.twice (now (line .entry))) (lineWords (now (line .entry)) from)) ⌝ }
-{
-    let mut keys = [0u64; 1024];
-    let mut count: usize = 0;
-    let mut at = from;
-    while at < line.len() {
-        if 1024 <= count {
-            return true;
-        }
-        let word = word_at(line, at);
-        if word.span.end <= word.span.start {
-            return false;
-        }
-        at = word.span.end;
-        if is(Token::Name, word) {
-            let k = key_of(text::part(line, word.span));
-            if among(&keys[..count], k) {
-                return true;
-            }
-            keys[count] = k;
-            count += 1;
-        }
-    }
-    false
-}
-
-// Whether 15 is to be asked of the words from an offset on: with so many names that the line is refused, only where two may be the same.
-fn may_repeat(line: &[u8], many: bool, from: usize) -> bool
-    ensures { λ r. ⌜ a.Asked r (d.anyWord (d.twice (now (line .entry))) (lineWords (now (line .entry)) from)) ⌝ }
-{
-    if !many {
-        return true;
-    }
-    alike(line, from)
-}
-
 // Whether a word stands again among those from an offset on, where that is asked.
 fn stands_again(line: &[u8], ask: bool, word: Span, from: usize) -> bool
-    requires { ⌜ a.Asked ask (d.anyWord (d.sameAs (now line) (bytesOf (now line) word)) (lineWords (now line) from)) ⌝ }
-    ensures { λ r. ⌜ r ≡ d.anyWord (d.sameAs (now (line .entry)) (bytesOf (now (line .entry)) word)) (lineWords (now (line .entry)) from) ⌝ }
+    ensures { λ r. ⌜ r ≡ (ask && d.anyWord (d.sameAs (now (line .entry)) (bytesOf (now (line .entry)) word)) (lineWords (now (line .entry)) from)) ⌝ }
 {
     if !ask {
         return false;
@@ -168,11 +131,10 @@ fn stands_again(line: &[u8], ask: bool, word: Span, from: usize) -> bool
     false
 }
 
-// Which checks a word fails, by itself or with the words behind it.
+// Which checks a word fails, by itself or with the words behind it; 15 where that is asked.
 fn word_flaws(line: &[u8], ask: bool, word: WordRead) -> Flaws
     requires { ⌜ word .token ≡ tokenOf (bytesOf (now line) (word .span)) ⌝ }
-    requires { ⌜ a.Asked ask (d.twice (now line) (word .span) (lineWords (now line) (word .span .end))) ⌝ }
-    ensures { λ r. ⌜ r ≡ a.wordFlaws (now (line .entry)) (word .span) (lineWords (now (line .entry)) (word .span .end)) ⌝ }
+    ensures { λ r. ⌜ r ≡ a.wordFlaws (now (line .entry)) ask (word .span) (lineWords (now (line .entry)) (word .span .end)) ⌝ }
 {
     let span = word.span;
     if is(Token::Name, word) {
@@ -198,6 +160,91 @@ fn word_flaws(line: &[u8], ask: bool, word: WordRead) -> Flaws
     }
 }
 
+// Whether a name with a key stands again behind itself, among the words from an offset on.
+fn twice_with_key(line: &[u8], key: u64, from: usize) -> bool
+    ensures { λ r. ⌜ (r ≡ true → d.anyWord (d.twice (now (line .entry))) (lineWords (now (line .entry)) from) ≡ true) ⌝ }
+{
+    let mut at = from;
+    while at < line.len() {
+        let word = word_at(line, at);
+        if word.span.end <= word.span.start {
+            return false;
+        }
+        at = word.span.end;
+        if key_of(text::part(line, word.span)) == key {
+            let failed = word_flaws(line, true, word);
+            if failed.twice {
+                return true;
+            }
+        }
+    }
+    false
+}
+
+// What the keys of the names from an offset on tell: where they differ, and there is room for them, no name stands twice; else the names with the
+// first key that two have are looked at.
+fn alike(line: &[u8], from: usize) -> Repeats
+    ensures { λ r. ⌜ a.Tells r (d.anyWord (d.twice (now (line .entry))) (lineWords (now (line .entry)) from)) ⌝ }
+{
+    let mut keys = [0u64; 1024];
+    let mut count: usize = 0;
+    let mut at = from;
+    while at < line.len() {
+        if 1024 <= count {
+            return Repeats::Perhaps;
+        }
+        let word = word_at(line, at);
+        if word.span.end <= word.span.start {
+            return Repeats::Never;
+        }
+        at = word.span.end;
+        if is(Token::Name, word) {
+            let k = key_of(text::part(line, word.span));
+            if among(&keys[..count], k) {
+                if twice_with_key(line, k, from) {
+                    return Repeats::Surely;
+                }
+                return Repeats::Perhaps;
+            }
+            keys[count] = k;
+            count += 1;
+        }
+    }
+    Repeats::Never
+}
+
+// What is known of 15 of the words from an offset on before it is asked: something only with so many names that the line is refused.
+fn may_repeat(line: &[u8], many: bool, from: usize) -> Repeats
+    ensures { λ r. ⌜ a.Tells r (d.anyWord (d.twice (now (line .entry))) (lineWords (now (line .entry)) from)) ⌝ }
+{
+    if !many {
+        return Repeats::Perhaps;
+    }
+    alike(line, from)
+}
+
+// Whether 15 is to be asked word by word.
+fn asks(known: Repeats) -> bool
+    ensures { λ r. ⌜ r ≡ a.asks known ⌝ }
+{
+    match known {
+        Repeats::Perhaps => true,
+        Repeats::Never => false,
+        Repeats::Surely => false,
+    }
+}
+
+// Whether 15 fails, by what was known and what was found where it was asked.
+fn settled(known: Repeats, found: bool) -> bool
+    ensures { λ r. ⌜ r ≡ a.settled known found ⌝ }
+{
+    match known {
+        Repeats::Perhaps => found,
+        Repeats::Never => false,
+        Repeats::Surely => true,
+    }
+}
+
 // What either of two fails.
 fn either(one: Flaws, other: Flaws) -> Flaws
     ensures { λ r. ⌜ r ≡ a.either one other ⌝ }
@@ -209,10 +256,9 @@ fn either(one: Flaws, other: Flaws) -> Flaws
     }
 }
 
-// Which checks the words from an offset on fail.
+// Which checks the words from an offset on fail; 15 where that is asked.
 fn flaws(line: &[u8], ask: bool, from: usize) -> Flaws
-    requires { ⌜ a.Asked ask (d.anyWord (d.twice (now line)) (lineWords (now line) from)) ⌝ }
-    ensures { λ r. ⌜ r ≡ a.flawsOf (now (line .entry)) (lineWords (now (line .entry)) from) ⌝ }
+    ensures { λ r. ⌜ r ≡ a.flawsOf (now (line .entry)) ask (lineWords (now (line .entry)) from) ⌝ }
 {
     let mut found = Flaws {
         long: false,
@@ -301,15 +347,15 @@ fn read_words(line: &[u8], builder: Builder, place: Place, from: usize) -> LineR
     if !form.fits {
         return refuse(names, inner, Limit::LineForm, place);
     }
-    let ask = may_repeat(line, names.over, from);
-    let failed = flaws(line, ask, from);
+    let known = may_repeat(line, names.over, from);
+    let failed = flaws(line, asks(known), from);
     if failed.long {
         return refuse(names, inner, Limit::NameLength, place);
     }
     if failed.bad {
         return refuse(names, inner, Limit::AwaitNumber, place);
     }
-    if failed.twice {
+    if settled(known, failed.twice) {
         return refuse(names, inner, Limit::ClockTwice, place);
     }
     let constraint = form.constraint;

@@ -1,7 +1,7 @@
--- `alike` meets its contract. The invariant: the keys of the names so far, and the words from at on, decide. The measure is what is left of the
--- line. Assumes nothing.
+-- `alike` meets its contract. The invariant: the keys of the names so far, and the words from at on, decide whether keys differ. The measure is
+-- what is left of the line. Assumes nothing.
 use mathlib.Core.Path.{_≡_, refl, sym, ap, _∙_}
-use mathlib.Core.Bool.{Bool, false, true≢false}
+use mathlib.Core.Bool.{Bool, false}
 use mathlib.Core.List.{List, [], _∷_}
 use Prim.Native.Nat.{ℕ, _-_, _<_}
 use native.Mathlib.Numerals.{add-one}
@@ -43,7 +43,7 @@ done : (l : tie.At-loop Inv-loop μ-loop) → lineWords (line l) (l .loop .at) �
 done l e = none-twice (line l) [] _ (sym (l .loop .inv .1) ∙ alike-done (line l) (keys l) _ e)
 
 returns-2 : tie.Need-returns-2 Inv-loop μ-loop
-returns-2 c e =
+returns-2 c =
     let w = c .before .before .word-at in
     let l = c .before .before .before .before .before in
     done l (is-last (line l) Space (l .loop .at) (w .result .span) (w .ensures .next) (c .if2 .taken))
@@ -101,7 +101,7 @@ alike-spec =
     Inv-loop
     μ-loop
     (λ c. (length-replicate {A = ℕ} 1_024 0, refl))
-    (λ c e. absurd (true≢false e))
+    (λ c. tt)
     (λ c κs. search needs)
     returns-2
     (λ c κs. search needs)
@@ -110,7 +110,9 @@ alike-spec =
     (λ c. search needs)
     counted
     (λ c κs. search needs)
-    (λ c e. absurd (true≢false e))
+    (λ c κs. search needs)
+    (λ c. c .before .twice-with-key .ensures (c .if5 .taken))
+    (λ c. tt)
     (λ c. search needs)
     (λ c. search needs)
     (λ c. search needs)
@@ -118,4 +120,4 @@ alike-spec =
     loop-again
     (λ c. goes-on (c .before .before))
     loop-again-2
-    (λ c e. done (c .before) (words-over (line (c .before)) Space (c .before .loop .at) (c .loop-test .left))))
+    (λ c. done (c .before) (words-over (line (c .before)) Space (c .before .loop .at) (c .loop-test .left))))

@@ -1,5 +1,4 @@
 -- `may_repeat` meets its contract. Assumes nothing.
-use mathlib.Core.Bool.{true≢false}
 use borrow.Author.Needs.{needs}
 use Rattle.table.proofs.reader.may_repeat.Statement.{statement}
 use Rattle.table.proofs.reader.may_repeat.Tie as tie
@@ -8,6 +7,6 @@ pub may-repeat-spec : {M : Type 1} → statement M
 may-repeat-spec =
     tie.close
     (tie.spec
-    (λ c e. absurd (true≢false e))
+    (λ c. tt)
     (λ c κs. search needs)
     (λ c. search needs))

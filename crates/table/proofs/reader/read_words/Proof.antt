@@ -10,7 +10,7 @@ use Rattle.grammar.specs.declared.Names.{Names}
 use Rattle.grammar.proofs.GrammarLaws.{form-not, form-is}
 use Rattle.table.specs.Reader.{anyWord, longName, badNumber, twice}
 use Rattle.table.specs.declared.Flaws.{Flaws}
-use Rattle.table.proofs.ReaderLaws.{refused-12, refused-13, refused-14, refused-15, to-add}
+use Rattle.table.proofs.ReaderLaws.{refused-12, refused-13, refused-14, refused-15, to-add, settles}
 use borrow.Author.Needs.{needs}
 use Rattle.table.proofs.reader.read_words.Statement.{statement}
 use Rattle.table.proofs.reader.read_words.Tie as tie
@@ -34,7 +34,7 @@ fits e = let f = e .before .before .before in sym (form f) ∙ form-is (now (sta
 -- what the words fail
 module _ (w : tie.After-flaws) where
   abbrev s : tie.Start
-  s = start (w .before .before .before .before .before)
+  s = start (w .before .before .before .before .before .before)
 
   long-is : w .flaws .result .long ≡ anyWord (longName (now (s .args .line))) (lineWords (now (s .args .line)) (s .args .from))
   long-is = ap (λ (x : Flaws). x .long) (w .flaws .ensures)
@@ -42,8 +42,12 @@ module _ (w : tie.After-flaws) where
   bad-is : w .flaws .result .bad ≡ anyWord (badNumber (now (s .args .line))) (lineWords (now (s .args .line)) (s .args .from))
   bad-is = ap (λ (x : Flaws). x .bad) (w .flaws .ensures)
 
-  twice-is : w .flaws .result .twice ≡ anyWord (twice (now (s .args .line))) (lineWords (now (s .args .line)) (s .args .from))
-  twice-is = ap (λ (x : Flaws). x .twice) (w .flaws .ensures)
+-- what is known of 15, and what was found where it was asked, settle it
+twice-is : (c : tie.After-settled) → (let s = s (c .before .before .before) .args in c .settled .result ≡ anyWord (twice (now (s .line))) (lineWords (now (s .line)) (s .from)))
+twice-is c =
+    let w = c .before .before .before in
+    let known = w .before .before .may-repeat in
+    c .settled .ensures ∙ rw (w .flaws .ensures, w .before .asks .ensures) (settles (known .result) _ (known .ensures))
 
 returns : tie.Need-returns
 returns c =
@@ -53,30 +57,32 @@ returns c =
 returns-2 : tie.Need-returns-2
 returns-2 c =
     let w = c .before .before in
-    c .refuse2 .ensures (s w .args .builder) ∙ sym (refused-13 _ _ _ _ _ _ _ _ (fits (w .before .before)) (sym (long-is w) ∙ c .before .if2 .taken))
+    c .refuse2 .ensures (s w .args .builder) ∙ sym (refused-13 _ _ _ _ _ _ _ _ (fits (w .before .before .before)) (sym (long-is w) ∙ c .before .if2 .taken))
 
 returns-3 : tie.Need-returns-3
 returns-3 c =
     let e = c .before .before in
     let w = e .before in
-    c .refuse3 .ensures (s w .args .builder) ∙ sym (refused-14 _ _ _ _ _ _ _ _ (fits (w .before .before)) (sym (long-is w) ∙ e .if2 .left) (sym (bad-is w) ∙ c .before .if3 .taken))
+    c .refuse3 .ensures (s w .args .builder) ∙ sym (refused-14 _ _ _ _ _ _ _ _ (fits (w .before .before .before)) (sym (long-is w) ∙ e .if2 .left) (sym (bad-is w) ∙ c .before .if3 .taken))
 
 returns-4 : tie.Need-returns-4
 returns-4 c =
-    let f = c .before .before in
+    let t = c .before .before in
+    let f = t .before in
     let e = f .before in
     let w = e .before in
-    c .refuse4 .ensures (s w .args .builder) ∙ sym (refused-15 _ _ _ _ _ _ _ _ (fits (w .before .before)) (sym (long-is w) ∙ e .if2 .left) (sym (bad-is w) ∙ f .if3 .left) (sym (twice-is w) ∙ c .before .if4 .taken))
+    c .refuse4 .ensures (s w .args .builder) ∙ sym (refused-15 _ _ _ _ _ _ _ _ (fits (w .before .before .before)) (sym (long-is w) ∙ e .if2 .left) (sym (bad-is w) ∙ f .if3 .left) (sym (twice-is t) ∙ c .before .if4 .taken))
 
 returns-5 : tie.Need-returns-5
 returns-5 c =
     let g = c .before .before in
-    let f = g .before in
+    let t = g .before in
+    let f = t .before in
     let e = f .before in
     let w = e .before in
     c .add-line .ensures
-    ∙ rw (w .before .before .before .before .before .before .before .with-words .ensures)
-    (sym (to-add _ _ _ _ _ _ _ _ (fits (w .before .before)) (sym (long-is w) ∙ e .if2 .left) (sym (bad-is w) ∙ f .if3 .left) (sym (twice-is w) ∙ g .if4 .left)))
+    ∙ rw (w .before .before .before .before .before .before .before .before .with-words .ensures)
+    (sym (to-add _ _ _ _ _ _ _ _ (fits (w .before .before .before)) (sym (long-is w) ∙ e .if2 .left) (sym (bad-is w) ∙ f .if3 .left) (sym (twice-is t) ∙ g .if4 .left)))
 
 pub read-words-spec : {M : Type 1} → statement M
 read-words-spec =
@@ -88,11 +94,13 @@ read-words-spec =
     (λ c κs. search needs)
     returns
     (λ c κs. search needs)
-    (λ c κs. c .may-repeat .ensures)
+    (λ c κs. search needs)
+    (λ c κs. search needs)
     (λ c κs. search needs)
     returns-2
     (λ c κs. search needs)
     returns-3
+    (λ c κs. search needs)
     (λ c κs. search needs)
     returns-4
     (λ c κs. search needs)

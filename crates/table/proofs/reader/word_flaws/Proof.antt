@@ -1,6 +1,6 @@
 -- `word_flaws` meets its contract. Assumes nothing.
 use mathlib.Core.Path.{_≡_, sym, ap, _∙_}
-use mathlib.Core.Bool.{Bool}
+use mathlib.Core.Bool.{Bool, false, _&&_, and-false}
 use denote.Ref.{now}
 use Rattle.text.specs.Split.{bytesOf}
 use Rattle.grammar.specs.Tokens.{is, tokenOf}
@@ -10,16 +10,15 @@ use borrow.Author.Needs.{needs}
 use Rattle.table.proofs.reader.word_flaws.Statement.{statement}
 use Rattle.table.proofs.reader.word_flaws.Tie as tie
 
--- what the two tests come to
+-- what the two tests come to; a word that is no name does not fail 15
 named : (i : tie.After-is) (x : Bool) → i .is .result ≡ x → (let s = i .before .before .before .args in is Name (tokenOf (bytesOf (now (s .line)) (s .word .span))) ≡ x)
-named i x e = ap (is Name) (sym (i .before .before .before .pre .0)) ∙ sym (i .is .ensures) ∙ e
+named i x e = ap (is Name) (sym (i .before .before .before .pre)) ∙ sym (i .is .ensures) ∙ e
 
 awaits : (i : tie.After-is2) (x : Bool) → i .is2 .result ≡ x → (let s = i .before .before .before .before .before .args in is Await (tokenOf (bytesOf (now (s .line)) (s .word .span))) ≡ x)
-awaits i x e = ap (is Await) (sym (i .before .before .before .before .before .pre .0)) ∙ sym (i .is2 .ensures) ∙ e
+awaits i x e = ap (is Await) (sym (i .before .before .before .before .before .pre)) ∙ sym (i .is2 .ensures) ∙ e
 
--- the name does not stand again, where that is not asked
-stands-again-requires : tie.Need-stands-again-requires
-stands-again-requires c κs e = let d = c .before in rw (named (d .before) _ (d .if1 .taken)) at (d .before .before .before .before .pre .1 e)
+unasked : (e : tie.Else1) → (e .before .before .before .before .args .ask && false) ≡ false
+unasked e = and-false (e .before .before .before .before .args .ask)
 
 returns : tie.Need-returns
 returns c =
@@ -32,12 +31,12 @@ returns-2 c =
     let w = c .before .before in
     let d = w .before in
     let e = d .before .before in
-    rw (named (e .before) _ (e .if1 .left), awaits (d .before) _ (d .if2 .taken), c .await-number .ensures, c .before .part2 .ensures, w .next-word .ensures .found)
+    rw (named (e .before) _ (e .if1 .left), unasked e, awaits (d .before) _ (d .if2 .taken), c .await-number .ensures, c .before .part2 .ensures, w .next-word .ensures .found)
 
 returns-3 : tie.Need-returns-3
 returns-3 c =
     let e = c .before .before in
-    rw (named (e .before) _ (e .if1 .left), awaits (c .before) _ (c .if2 .left))
+    rw (named (e .before) _ (e .if1 .left), unasked e, awaits (c .before) _ (c .if2 .left))
 
 pub word-flaws-spec : {M : Type 1} → statement M
 word-flaws-spec =
@@ -45,7 +44,7 @@ word-flaws-spec =
     (tie.spec
     (λ c κs. search needs)
     (λ c κs. search needs)
-    stands-again-requires
+    (λ c κs. search needs)
     returns
     (λ c κs. search needs)
     (λ c κs. search needs)
