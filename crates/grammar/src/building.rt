@@ -58,16 +58,16 @@ fn implied(clock: u8, constraint: Constraint) -> Implied
 }
 
 // The constraint that such a definition is.
-fn whole(implied: Implied) -> Constraint
-    ensures { λ r. ⌜ r ≡ d.whole implied ⌝ }
+fn whole(definition: Implied) -> Constraint
+    ensures { λ r. ⌜ r ≡ d.whole definition ⌝ }
 {
-    let kind = implied.kind;
-    let parameter = implied.parameter;
+    let kind = definition.kind;
+    let parameter = definition.parameter;
     Constraint {
         kind,
-        defined: implied.defined,
-        first: implied.first,
-        second: implied.second,
+        defined: definition.defined,
+        first: definition.first,
+        second: definition.second,
         parameter,
         line: Place(0),
     }
@@ -146,8 +146,8 @@ fn with_definitions(place: Place, builder: Builder, inner: Inner) -> Builder
         if 32 <= i {
             return more;
         }
-        let implied = inner.records[i];
-        more = with_constraint(place, more, whole(implied));
+        let definition = inner.records[i];
+        more = with_constraint(place, more, whole(definition));
         i += 1;
     }
     more

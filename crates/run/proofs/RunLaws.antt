@@ -31,7 +31,7 @@ use Rattle.recording.specs.declared.HeaderRead.{HeaderRead}
 use Rattle.recording.proofs.HeaderLaws.{opened-within}
 use Rattle.recording.specs.declared.Step.{Step}
 use Rattle.run.specs.Complete.{completeAll}
-use Rattle.run.specs.StepByStep.{goesOn, verdictOf, Progress, begins, judgeOn, over}
+use Rattle.run.specs.StepByStep.{goesOn, verdictOf, Progress, after, begins, judgeOn, over}
 use Rattle.run.specs.Run.{endingSaid, afterStep, judgeAll, refused, recordsOf, startOf, zeros, ran, runTable, withTable, runOf}
 use Rattle.judging.specs.Step.{judged}
 use Rattle.judging.specs.declared.Judged.{Judged}
@@ -66,7 +66,7 @@ module _ (named : ℕ) (rs : List Constraint) (b : Progress) (o : Step) where
   -- it is judged, with the verdict v
   module _ (e : o .begun ≡ true) (j : Judged) (q : j ≡ judged (bits (completed named rs (b .configuration .words) (o .ticks))) rs (b .configuration)) where
     abbrev next : Progress
-    next = record { steps = b .steps + 1; configuration = j .configuration }
+    next = after (b .steps + 1) (j .configuration)
 
     module _ (v : Verdict) (w : v ≡ verdictOf rs o (j .outcome)) where
       judged-left : (g : Reading) → judgeOn named rs b (closing o g) ≡ cond (goesOn v) (judgeOn named rs next g) (over v b)
@@ -91,7 +91,7 @@ module _ (named : ℕ) (rs : List Constraint) (b : Progress) (o : Step) where
 
   -- without ticks every record holds, and no word moves
   pub quiet-goes : o .begun ≡ true → o .ticks ≡ 0 → brokenWord rs (b .configuration .words) ≡ Nowhere
-      → Goes named rs b o (record { steps = b .steps + 1; configuration = b .configuration })
+      → Goes named rs b o (after (b .steps + 1) (b .configuration))
   quiet-goes e q inside =
       let none-ticks = ap (λ (f : ℕ). bits (completed named rs (b .configuration .words) f)) q ∙ ap bits (completed-none named rs (b .configuration .words)) ∙ bits-zero in
       let held = ap (λ (F : Ticks). judged F rs (b .configuration)) none-ticks ∙ judged-none rs (b .configuration) inside in

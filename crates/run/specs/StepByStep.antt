@@ -32,8 +32,11 @@ pub record Progress : Type 0 where
   pub steps : ℕ
   pub configuration : Configuration
 
+abbrev pub after : (steps : ℕ) → Configuration → Progress
+after n c = record { steps = n; configuration = c }
+
 abbrev pub begins : Configuration → Progress
-begins c = record { steps = 0; configuration = c }
+begins = after 0
 
 -- what is left to complete and judge, of what was recorded, after what was judged so far
 abbrev pub judgeOn : (named : ℕ) → List Constraint → Progress → Reading → Judging

@@ -40,7 +40,7 @@ fn clocks_in(table: Table) -> Clocks
 
 // What a run gives that is over.
 fn report(count: usize, verdict: Verdict, steps: u64, configuration: Configuration) -> Report
-    ensures { λ r. ⌜ s.told r ≡ s.ran count (f.over verdict (record { steps = steps; configuration = configuration })) ⌝ }
+    ensures { λ r. ⌜ s.told r ≡ s.ran count (f.over verdict (f.after steps configuration)) ⌝ }
 {
     Report {
         verdict,
@@ -50,7 +50,7 @@ fn report(count: usize, verdict: Verdict, steps: u64, configuration: Configurati
     }
 }
 
-// The last step, which the end closes, where a mark has begun one.
+// What a run gives at the end of its recording, which closes the last step, where a mark has begun one.
 fn judge_last(
     records: [Constraint; 64],
     count: usize,
@@ -60,7 +60,7 @@ fn judge_last(
     last: Step,
 ) -> Report
     requires { ⌜ Ready clocks records count (configuration .words) × (steps + 1 < 2 ^ 64) ⌝ }
-    ensures { λ r. ⌜ s.told r ≡ s.ran count (f.judgeOn (clocks .named) (slots count records) (record { steps = steps; configuration = configuration }) (closing last (endsWith ended))) ⌝ }
+    ensures { λ r. ⌜ s.told r ≡ s.ran count (f.judgeOn (clocks .named) (slots count records) (f.after steps configuration) (closing last (endsWith ended))) ⌝ }
 {
     if !last.begun {
         return report(count, Verdict::Accepted, steps, configuration);

@@ -59,7 +59,7 @@ module _ (ks : List ℕ) (key : ℕ) where
   unfolding among
   among-last = rw (among-both ks (key ∷ []) key, eq-eqb key key refl) (or-true (among ks key))
 
--- ---- names of which two may be the same: one has a key among those of the names before it, ks
+-- ---- whether some name has a key that is among ks, or is that of a name before it
 abbrev isName : List ℕ → Span → Bool
 isName t w = is Name (tokenOf (bytesOf t w))
 
@@ -84,7 +84,7 @@ module _ (t ks : List ℕ) (ws : List Span) where
     unfolding alikeIn
     alike-on q a = rw (e, q, a)
 
--- a name whose key is among the keys does not stand again
+-- where no name of the words has a key among ks, a name whose key is among ks is none of them
 module _ (t n : List ℕ) (named : is Name (tokenOf n) ≡ true) where
   differs : (ks : List ℕ) (w : Span) → among ks (keyOf n) ≡ true → (isName t w && among ks (keyOf (bytesOf t w))) ≡ false → sameBytes (bytesOf t w) n ≡ false
   differs ks w a e = differ-same (bytesOf t w) n (λ q. true≢false (sym (rw (named, a)) ∙ (rw q at e)))

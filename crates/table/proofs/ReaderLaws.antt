@@ -119,7 +119,7 @@ module _ (t : List ℕ) (k i : ℕ) where
     unfolding unpaired
     paired-on = rw (drop-cons t i 0 h, add-one i)
 
-    -- a byte that is no parenthesis changes nothing, where it was found already that too many stand open
+    -- a byte that is no parenthesis changes nothing; where too many stand open, that was found before (d)
     module _ (e : (not (eqb (getD t i 0) 40) && not (eqb (getD t i 0) 41)) ≡ true) where
       opens-none : eqb (getD t i 0) 40 ≡ false
       opens-none = not-true _ (and-l _ _ e)

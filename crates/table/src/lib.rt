@@ -29,7 +29,7 @@ pub struct Flaws {
     pub twice: bool,
 }
 
-// Whether a name stands twice in a line, as far as the keys of its names tell.
+// What is known, before 15 is asked word by word, of whether a name stands twice in a line.
 pub enum Repeats {
     Perhaps,
     Never,

@@ -160,7 +160,7 @@ fn word_flaws(line: &[u8], ask: bool, word: WordRead) -> Flaws
     }
 }
 
-// Whether a name with a key stands again behind itself, among the words from an offset on.
+// Whether a name with this key is found to stand again behind itself, among the words from an offset on. Only `true` tells something.
 fn twice_with_key(line: &[u8], key: u64, from: usize) -> bool
     ensures { λ r. ⌜ (r ≡ true → d.anyWord (d.twice (now (line .entry))) (lineWords (now (line .entry)) from) ≡ true) ⌝ }
 {
@@ -181,9 +181,9 @@ fn twice_with_key(line: &[u8], key: u64, from: usize) -> bool
     false
 }
 
-// What the keys of the names from an offset on tell: where they differ, and there is room for them, no name stands twice; else the names with the
-// first key that two have are looked at.
-fn alike(line: &[u8], from: usize) -> Repeats
+// What the keys of the names from an offset on tell: where all differ, no name stands twice; where two are the same, the names with that key are
+// compared. Where there is no room for all of them, nothing is told.
+fn by_keys(line: &[u8], from: usize) -> Repeats
     ensures { λ r. ⌜ a.Tells r (d.anyWord (d.twice (now (line .entry))) (lineWords (now (line .entry)) from)) ⌝ }
 {
     let mut keys = [0u64; 1024];
@@ -213,14 +213,14 @@ fn alike(line: &[u8], from: usize) -> Repeats
     Repeats::Never
 }
 
-// What is known of 15 of the words from an offset on before it is asked: something only with so many names that the line is refused.
-fn may_repeat(line: &[u8], many: bool, from: usize) -> Repeats
+// What is known of 15 before it is asked word by word. Keys are asked only of a line with too many names, which is refused in any case.
+fn repeats(line: &[u8], many: bool, from: usize) -> Repeats
     ensures { λ r. ⌜ a.Tells r (d.anyWord (d.twice (now (line .entry))) (lineWords (now (line .entry)) from)) ⌝ }
 {
     if !many {
         return Repeats::Perhaps;
     }
-    alike(line, from)
+    by_keys(line, from)
 }
 
 // Whether 15 is to be asked word by word.
@@ -347,7 +347,7 @@ fn read_words(line: &[u8], builder: Builder, place: Place, from: usize) -> LineR
     if !form.fits {
         return refuse(names, inner, Limit::LineForm, place);
     }
-    let known = may_repeat(line, names.over, from);
+    let known = repeats(line, names.over, from);
     let failed = flaws(line, asks(known), from);
     if failed.long {
         return refuse(names, inner, Limit::NameLength, place);

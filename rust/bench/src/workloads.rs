@@ -62,7 +62,7 @@ Tables that are read alone, by their size in bytes:
 - read_flat: 64 lines without parentheses
 - read_deep: one line of expressions sixteen deep, refused with 17
 - read_names: one line of as many different names as fit, refused with 17
-- read_twice: the same, the last two the same, refused with 15
+- read_twice: read_names with its last two names the same, refused with 15
 - read_words: one line of as many names as fit, and nothing else, refused with 12
 - read_openers: one line of opening parentheses, refused with 19
 

@@ -214,14 +214,20 @@ fn implicit_clocks_in_tick_sets(case: &Case) -> Answer {
     answer
 }
 
+/// The line of a table at a place, from 1.
+fn line_at(text: &[u8], place: u64) -> &[u8] {
+    let mut lines = text.split(|byte| *byte == b'\n');
+    lines
+        .nth(place.saturating_sub(1) as usize)
+        .unwrap_or_default()
+}
+
 /// A monitor for which a parenthesis that closes without partner closes one that is still to come.
 fn closes_without_partner(case: &Case) -> Answer {
     let mut answer = second(case);
     if let (Case::Read { text }, Answer::Read(Err(refusal))) = (case, &mut answer) {
-        let mut lines = text.split(|byte| *byte == b'\n');
-        let line = lines.nth(refusal.place.saturating_sub(1) as usize);
         let mut open = 0;
-        let depths = line.unwrap_or_default().iter().map(|byte| {
+        let depths = line_at(text, refusal.place).iter().map(|byte| {
             match byte {
                 b'(' => open += 1,
                 b')' => open -= 1,
@@ -248,9 +254,7 @@ fn names(line: &[u8]) -> Vec<&[u8]> {
 fn fifteen_of_32_names(case: &Case) -> Answer {
     let mut answer = second(case);
     if let (Case::Read { text }, Answer::Read(Err(refusal))) = (case, &mut answer) {
-        let mut lines = text.split(|byte| *byte == b'\n');
-        let line = lines.nth(refusal.place.saturating_sub(1) as usize);
-        let mut first = names(line.unwrap_or_default());
+        let mut first = names(line_at(text, refusal.place));
         first.truncate(32);
         first.sort();
         if refusal.number == 15 && first.windows(2).all(|two| two[0] != two[1]) {

@@ -20,7 +20,7 @@ use Rattle.recording.specs.declared.ChangesRead.{ChangesRead}
 use Rattle.recording.specs.declared.ChangesRead.the-variants.{Mark}
 use Rattle.recording.specs.declared.Step.{Step}
 use Rattle.recording.specs.declared.Turn.{Turn}
-use Rattle.run.specs.StepByStep.{Progress, judgeOn, begins}
+use Rattle.run.specs.StepByStep.{Progress, after, judgeOn, begins}
 use Rattle.run.specs.Run.{Judging, ran}
 use Rattle.run.proofs.RunLaws.{none-left, Goes, unbegun-goes, judged-goes, judged-stops, quiet-goes}
 use borrow.Author.Needs.{needs}
@@ -32,8 +32,8 @@ Inv-loop recording from records count clocks variables reached₀ steps₀ step�
     (brokenWord (slots count records) (reached .words) ≡ Nowhere)
     × (steps ≤ at)
     × (steps ≤ length recording)
-    × (judgeOn (clocks .named) (slots count records) (record { steps = steps; configuration = reached }) (bodySteps (declared variables) recording step (words recording at))
-    ≡ judgeOn (clocks .named) (slots count records) (record { steps = steps₀; configuration = reached₀ }) (bodySteps (declared variables) recording step₀ (words recording from)))
+    × (judgeOn (clocks .named) (slots count records) (after steps reached) (bodySteps (declared variables) recording step (words recording at))
+    ≡ judgeOn (clocks .named) (slots count records) (after steps₀ reached₀) (bodySteps (declared variables) recording step₀ (words recording from)))
 
 abbrev μ-loop : tie.MeasureT-loop
 μ-loop recording from records count clocks variables reached₀ steps₀ step₀ at₀ reached steps step at = length recording - at
@@ -51,7 +51,7 @@ top c = c .before .before .before .before .before .before .before .before
 
 -- what was judged so far, what is left of a reading after it, the body with an open step from an offset on, and what was to be judged at the start
 abbrev so-far : Read → Progress
-so-far c = record { steps = top c .loop .steps; configuration = top c .loop .reached }
+so-far c = after (top c .loop .steps) (top c .loop .reached)
 
 abbrev left : Read → Progress → Reading → Judging
 left c = let s = top c .before .before .before .args in judgeOn (s .clocks .named) (slots (s .count) (s .records))
@@ -119,20 +119,20 @@ GoesFrom c d =
 -- a step that a mark has begun is judged, or has no ticks
 goes-begun : (c : tie.Joined2 Inv-loop μ-loop) →
     let k = c .before .before .before in
-    GoesFrom k (record { steps = so-far (k .before .before .before) .steps + 1; configuration = c .if2 .reached })
+    GoesFrom k (after (so-far (k .before .before .before) .steps + 1) (c .if2 .reached))
 goes-begun c =
     let i = c .before .before in
     let k = i .before in
     let inside = top (k .before .before .before) .loop .inv .0 in
-    ⊎-elim {C = GoesFrom k (record { steps = so-far (k .before .before .before) .steps + 1; configuration = c .if2 .reached })}
+    ⊎-elim {C = GoesFrom k (after (so-far (k .before .before .before) .steps + 1) (c .if2 .reached))}
     (λ w. let h = sym (w .3 .ensures) ∙ not-false _ (w .4 .left) in rw (w .6) (judged-goes _ _ _ _ (i .if1 .taken) (w .1 .result) (w .1 .ensures) (w .2 .result) (w .2 .ensures) h inside))
     (λ w. rw (w .1) (quiet-goes _ _ _ _ (i .if1 .taken) (w .0 .left) inside))
     (c .if2 .came)
 
 -- where the branches meet
-goes : (c : tie.Joined1 Inv-loop μ-loop) → GoesFrom (c .before) (record { steps = c .if1 .steps; configuration = c .if1 .reached })
+goes : (c : tie.Joined1 Inv-loop μ-loop) → GoesFrom (c .before) (after (c .if1 .steps) (c .if1 .reached))
 goes c =
-    ⊎-elim {C = GoesFrom (c .before) (record { steps = c .if1 .steps; configuration = c .if1 .reached })}
+    ⊎-elim {C = GoesFrom (c .before) (after (c .if1 .steps) (c .if1 .reached))}
     (λ w. rw (w .3, w .4) (goes-begun (record { before = record { before = record { before = c .before; if1 = w .0 }; struct-known = w .1 }; if2 = w .2 })))
     (λ w. rw (w .1, w .2) (unbegun-goes _ _ _ _ (w .0 .left) (top (c .before .before .before .before) .loop .inv .0)))
     (c .if1 .came)
@@ -142,12 +142,12 @@ begins-next : (c : tie.After-read-mark Inv-loop μ-loop) (m : Turn) → c .read-
     let t = c .before .before .before in
     let r = t .before .before in
     let i = c .before .if1 in
-    left r (record { steps = i .steps; configuration = i .reached }) (onward (turnAs m) (λ o. body r o (t .read3 .given .0 .1 .0 .end))) ≡ whole r
+    left r (after (i .steps) (i .reached)) (onward (turnAs m) (λ o. body r o (t .read3 .given .0 .1 .0 .end))) ≡ whole r
 begins-next c m q =
     let t = c .before .before .before in
     let r = t .before .before in
     let i = c .before .if1 in
-    ap (λ (x : Checked Step). left r (record { steps = i .steps; configuration = i .reached }) (onward x (λ o. body r o (t .read3 .given .0 .1 .0 .end))))
+    ap (λ (x : Checked Step). left r (after (i .steps) (i .reached)) (onward x (λ o. body r o (t .read3 .given .0 .1 .0 .end))))
     (ap turnAs (sym q) ∙ c .read-mark .ensures)
     ∙ sym (goes (c .before) .left _)
     ∙ start r _ (t .read3 .given .1)

@@ -46,7 +46,7 @@ module _ (w : tie.After-flaws) where
 twice-is : (c : tie.After-settled) → (let s = s (c .before .before .before) .args in c .settled .result ≡ anyWord (twice (now (s .line))) (lineWords (now (s .line)) (s .from)))
 twice-is c =
     let w = c .before .before .before in
-    let known = w .before .before .may-repeat in
+    let known = w .before .before .repeats in
     c .settled .ensures ∙ rw (w .flaws .ensures, w .before .asks .ensures) (settles (known .result) _ (known .ensures))
 
 returns : tie.Need-returns

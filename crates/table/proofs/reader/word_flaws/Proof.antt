@@ -17,8 +17,8 @@ named i x e = ap (is Name) (sym (i .before .before .before .pre)) ∙ sym (i .is
 awaits : (i : tie.After-is2) (x : Bool) → i .is2 .result ≡ x → (let s = i .before .before .before .before .before .args in is Await (tokenOf (bytesOf (now (s .line)) (s .word .span))) ≡ x)
 awaits i x e = ap (is Await) (sym (i .before .before .before .before .before .pre)) ∙ sym (i .is2 .ensures) ∙ e
 
-unasked : (e : tie.Else1) → (e .before .before .before .before .args .ask && false) ≡ false
-unasked e = and-false (e .before .before .before .before .args .ask)
+no-name-twice : (e : tie.Else1) → (e .before .before .before .before .args .ask && false) ≡ false
+no-name-twice e = and-false (e .before .before .before .before .args .ask)
 
 returns : tie.Need-returns
 returns c =
@@ -31,12 +31,12 @@ returns-2 c =
     let w = c .before .before in
     let d = w .before in
     let e = d .before .before in
-    rw (named (e .before) _ (e .if1 .left), unasked e, awaits (d .before) _ (d .if2 .taken), c .await-number .ensures, c .before .part2 .ensures, w .next-word .ensures .found)
+    rw (named (e .before) _ (e .if1 .left), no-name-twice e, awaits (d .before) _ (d .if2 .taken), c .await-number .ensures, c .before .part2 .ensures, w .next-word .ensures .found)
 
 returns-3 : tie.Need-returns-3
 returns-3 c =
     let e = c .before .before in
-    rw (named (e .before) _ (e .if1 .left), unasked e, awaits (c .before) _ (c .if2 .left))
+    rw (named (e .before) _ (e .if1 .left), no-name-twice e, awaits (c .before) _ (c .if2 .left))
 
 pub word-flaws-spec : {M : Type 1} → statement M
 word-flaws-spec =

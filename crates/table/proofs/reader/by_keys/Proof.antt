@@ -1,4 +1,4 @@
--- `alike` meets its contract. The invariant: the keys of the names so far, and the words from at on, decide whether keys differ. The measure is
+-- `by_keys` meets its contract. The invariant: the keys of the names so far, and the words from at on, decide whether keys differ. The measure is
 -- what is left of the line. Assumes nothing.
 use mathlib.Core.Path.{_≡_, refl, sym, ap, _∙_}
 use mathlib.Core.Bool.{Bool, false}
@@ -21,8 +21,8 @@ use Rattle.table.specs.Answers.{keyOf, among}
 use Rattle.table.specs.Reader.{anyWord, twice}
 use Rattle.table.proofs.KeyLaws.{alikeIn, alike-done, alike-skip, alike-on, none-twice}
 use borrow.Author.Needs.{needs}
-use Rattle.table.proofs.reader.alike.Statement.{statement}
-use Rattle.table.proofs.reader.alike.Tie as tie
+use Rattle.table.proofs.reader.by_keys.Statement.{statement}
+use Rattle.table.proofs.reader.by_keys.Tie as tie
 
 abbrev Inv-loop : tie.InvT-loop
 Inv-loop line from keys₀ count₀ at₀ keys count at =
@@ -94,8 +94,8 @@ loop-again-2 c =
     let l = at e in
     (l .loop .inv .0, sym (alike-skip (line l) (keys l) _ _ _ (word-is e) (named (c .before) _ (c .if3 .left))) ∙ l .loop .inv .1)
 
-pub alike-spec : {M : Type 1} → statement M
-alike-spec =
+pub by-keys-spec : {M : Type 1} → statement M
+by-keys-spec =
     tie.close
     (tie.spec
     Inv-loop
