@@ -14,10 +14,10 @@ use Rattle.forms.specs.Lines.{namesIn, Some, here, later, Filled, opened
 use Rattle.forms.proofs.SomeLaws.{some-none}
 
 -- ---- the words of a line of spaces, and of another
-abbrev space : ℕ → Bool
+abbrev pub space : ℕ → Bool
 space b = eqb b 32
 
-abbrev paren : ℕ → Bool
+abbrev pub paren : ℕ → Bool
 paren b = eqb b 40 || eqb b 41
 
 pub blank-words : (l : Line) → allBytes space l ≡ true → wordsOf l ≡ []
@@ -25,7 +25,7 @@ unfolding allBytes parts nonempty
 blank-words [] e = refl
 blank-words (b ∷ bs) e = rw (and-l (space b) (allBytes space bs) e) (blank-words bs (and-r (space b) (allBytes space bs) e))
 
-some-part : (sep alone : ℕ → Bool) (l : Line) → parts sep alone l ≡ [] → ⊥
+pub some-part : (sep alone : ℕ → Bool) (l : Line) → parts sep alone l ≡ [] → ⊥
 unfolding parts grow
 some-part sep alone [] e = let z : _≡_ {A = ℕ} 0 1 = cc in omega arith
 some-part sep alone (b ∷ bs) e = go (sep b) (alone b) (parts sep alone bs) (some-part sep alone bs) e

@@ -49,14 +49,14 @@ await-value (d ∷ ds) e = rw e (go (ltb (value 0 (d ∷ ds)) (2 ^ 64)) refl)
 
 -- ---- rows by their kind
 module _ {O : Type 0} (IsOp : Words → O → Type 0) {a c : Words} {x y : O} (p : IsOp a x) (q : IsOp c y) where
-  relation-row : (k : Relation) → IsForm IsOp (a ++ (kindWords (Relates k) ++ c)) (relates k x y)
+  pub relation-row : (k : Relation) → IsForm IsOp (a ++ (kindWords (Relates k) ++ c)) (relates k x y)
   relation-row Coincides = coincides p q
   relation-row Excludes = excludes p q
   relation-row SubClock = sub-clock p q
   relation-row StrictlyPrecedes = strictly-precedes p q
   relation-row Precedes = precedes p q
 
-  right-row : (k : Definition) → notAwait (Defines k) ≡ true → IsRight IsOp (a ++ (kindWords (Defines k) ++ c)) (both k x y)
+  pub right-row : (k : Definition) → notAwait (Defines k) ≡ true → IsRight IsOp (a ++ (kindWords (Defines k) ++ c)) (both k x y)
   unfolding notAwait
   right-row Union n = union p q
   right-row Inter n = inter p q

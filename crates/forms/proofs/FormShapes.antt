@@ -1,7 +1,7 @@
 -- The rows of forms by their shape: two operands with the words of a kind between them, or an await; a relation, or a definition. Assumes nothing.
-use mathlib.Core.Path.{_≡_, refl}
+use mathlib.Core.Path.{_≡_, refl, ap, _∙_}
 use mathlib.Core.Bool.{true}
-use mathlib.Core.List.{_∷_, _++_}
+use mathlib.Core.List.{_∷_, _++_, append-assoc}
 use Rattle.constraint.specs.declared.Definition.{Definition}
 use Rattle.constraint.specs.declared.Definition.the-variants.{Union, Inter, Lub, Glb, StrictlySampled, Sampled, Upto}
 use Rattle.constraint.specs.declared.Kind.{Kind}
@@ -25,6 +25,10 @@ module _ (O : Type 0) (IsOp : Words → O → Type 0) where
     pub kind : isKind k ≡ true
     pub plainly : notAwait k ≡ true
     pub words : us ≡ a ++ (kindWords k ++ c)
+
+  -- with whatever words behind them
+  pub onward : (k : Kind) (x y : O) (ws us : Words) (p : Between k x y ws) → ws ++ us ≡ p .a ++ (kindWords k ++ (p .c ++ us))
+  onward k x y ws us p = ap (λ (z : Words). z ++ us) (p .words) ∙ append-assoc (p .a) (kindWords k ++ p .c) us ∙ ap (λ (z : Words). p .a ++ z) (append-assoc (kindWords k) (p .c) us)
 
   -- a right side, as one of two shapes
   pub data RightShape (us : Words) : Right O → Type 0 where

@@ -17,10 +17,10 @@ use Rattle.grammar.specs.Grammar.{strictKind, plain, isKind}
 use Rattle.grammar.specs.Tokens.{is, tokenOf, lookUp}
 use Rattle.grammar.specs.declared.Token.the-variants.{Name, Await, Strictly}
 use Rattle.grammar.proofs.KindLaws.{notAwait}
-use Rattle.forms.specs.Forms.{Word, Words, wordsOf, nameShape, isName, Right, both, awaits, Form, relates, defines, IsRight, await, IsForm, Operand, name, inner, IsOperandOf, one-name, in-parentheses, IsOperand, levels, NoLineFitsTwoForms}
+use Rattle.forms.specs.Forms.{Word, Words, wordsOf, nameShape, isName, Right, both, awaits, Form, relates, defines, IsRight, IsForm, Operand, name, inner, IsOperandOf, one-name, in-parentheses, IsOperand, levels, NoLineFitsTwoForms}
 use Rattle.forms.proofs.FormLaws.{Opens, by-name, by-other}
 use Rattle.forms.proofs.FormRows.{operands-open}
-use Rattle.forms.proofs.FormShapes.{Between, RightShape, two, waits, right-shape, Shape, relation, definition, shape}
+use Rattle.forms.proofs.FormShapes.{Between, onward, RightShape, two, waits, right-shape, Shape, relation, definition, shape}
 use Rattle.forms.proofs.WordLaws.{kindWords, name-is}
 
 -- the kind that the first words say
@@ -61,13 +61,9 @@ def-kind (u ∷ us) = refl
 
 module _ (O : Type 0) (IsOp : Words → O → Type 0) (opens : (a : Words) (x : O) → IsOp a x → Opens a)
     (one : (a c us vs : Words) (x y : O) → IsOp a x → IsOp c y → a ++ us ≡ c ++ vs → (x ≡ y) × (us ≡ vs)) where
-  -- with whatever words behind it
-  onward : (k : Kind) (x y : O) (ws us : Words) (p : Between O IsOp k x y ws) → ws ++ us ≡ p .a ++ (kindWords k ++ (p .c ++ us))
-  onward k x y ws us p = ap (λ (z : Words). z ++ us) (p .words) ∙ append-assoc (p .a) (kindWords k ++ p .c) us ∙ ap (λ (z : Words). p .a ++ z) (append-assoc (kindWords k) (p .c) us)
-
   one-pair : (ws vs us zs : Words) (k j : Kind) (x y v w : O) → Between O IsOp k x y ws → Between O IsOp j v w vs → ws ++ us ≡ vs ++ zs → (k ≡ j) × (x ≡ v) × (y ≡ w) × (us ≡ zs)
   one-pair ws vs us zs k j x y v w p q e =
-      let f = one (p .a) (q .a) (kindWords k ++ (p .c ++ us)) (kindWords j ++ (q .c ++ zs)) x v (p .first) (q .first) (sym (onward k x y ws us p) ∙ e ∙ onward j v w vs zs q) in
+      let f = one (p .a) (q .a) (kindWords k ++ (p .c ++ us)) (kindWords j ++ (q .c ++ zs)) x v (p .first) (q .first) (sym (onward O IsOp k x y ws us p) ∙ e ∙ onward O IsOp j v w vs zs q) in
       let g : k ≡ j = sym (kind-opened k (p .c) us (opens (p .c) y (p .second)) (p .kind) (p .plainly)) ∙ ap kindOf (f .1) ∙ kind-opened j (q .c) zs (opens (q .c) w (q .second)) (q .kind) (q .plainly) in
       let h : kindWords j ++ (p .c ++ us) ≡ kindWords j ++ (q .c ++ zs) = ap (λ (z : Kind). kindWords z ++ (p .c ++ us)) (sym g) ∙ f .1 in
       let s = one (p .c) (q .c) us zs y w (p .second) (q .second) (cancel (kindWords j) (p .c ++ us) (q .c ++ zs) h) in
@@ -85,9 +81,9 @@ module _ (O : Type 0) (IsOp : Words → O → Type 0) (opens : (a : Words) (x : 
         let d : k ≡ j = cc (f .0) in
         (λ i. both (d i) (f .1 i) (f .2 i), f .3)
     shapes-same r s (two {k = k} {x = x} {y = y} p) (waits {n = n} {a = a} b q h) =
-        absurd (await-opens (p .a) (kindWords (Defines k) ++ (p .c ++ us)) (n ∷ (a ++ zs)) (opens (p .a) x (p .first)) (sym (onward (Defines k) x y ws us p) ∙ e ∙ ap (λ (z : Words). z ++ zs) h))
+        absurd (await-opens (p .a) (kindWords (Defines k) ++ (p .c ++ us)) (n ∷ (a ++ zs)) (opens (p .a) x (p .first)) (sym (onward O IsOp (Defines k) x y ws us p) ∙ e ∙ ap (λ (z : Words). z ++ zs) h))
     shapes-same r s (waits {n = n} {a = a} b p h) (two {k = k} {x = x} {y = y} q) =
-        absurd (await-opens (q .a) (kindWords (Defines k) ++ (q .c ++ zs)) (n ∷ (a ++ us)) (opens (q .a) x (q .first)) (sym (onward (Defines k) x y vs zs q) ∙ sym e ∙ ap (λ (z : Words). z ++ us) h))
+        absurd (await-opens (q .a) (kindWords (Defines k) ++ (q .c ++ zs)) (n ∷ (a ++ us)) (opens (q .a) x (q .first)) (sym (onward O IsOp (Defines k) x y vs zs q) ∙ sym e ∙ ap (λ (z : Words). z ++ us) h))
     shapes-same r s (waits {n = n} {a = a} {x = x} b p h) (waits {n = m} {a = c} {x = y} t q g) =
         let d : ascii "await" ∷ n ∷ (a ++ us) ≡ ascii "await" ∷ m ∷ (c ++ zs) = ap (λ (z : Words). z ++ us) (sym h) ∙ e ∙ ap (λ (z : Words). z ++ zs) g in
         let i : n ≡ m = cc in

@@ -21,15 +21,19 @@ use Rattle.grammar.proofs.TokenLaws.{told-apart}
 use Rattle.forms.specs.Forms.{Word, Words, oneOf, nameShape, isName, isDigits, Right, both, awaits, Form, relates, defines, IsRight, IsForm, Operand, name, both-inside, awaits-inside, inner, IsOperandOf, one-name, in-parentheses, IsOperand}
 use Rattle.forms.specs.Lines.{namesIn, pairsIn, implicits, formImplicits}
 use Rattle.constraint.proofs.Booleans.{or-l, or-r}
-use Rattle.forms.proofs.FormShapes.{Between, RightShape, two, waits, right-shape, Shape, relation, definition, shape}
-use Rattle.forms.proofs.SomeLaws.{anyOf}
+use Rattle.forms.proofs.FormShapes.{Between, onward, RightShape, two, waits, right-shape, Shape, relation, definition, shape}
+use Rattle.forms.proofs.SomeLaws.{or-true, anyOf}
 use Rattle.forms.proofs.WordLaws.{kindWords, digits-is, name-is}
+
+-- the words of forms but parentheses and `await`: they stand between operands, or between a name and a right side
+abbrev pub betweenWords : Words
+betweenWords =
+    ascii "=" ∷ ascii "#" ∷ ascii "isSubClockOf" ∷ ascii "strictly" ∷ ascii "precedes" ∷ ascii "clockDef" ∷ ascii "clockUnion" ∷ ascii "clockInter" ∷
+    ascii "lub" ∷ ascii "glb" ∷ ascii "sampled" ∷ ascii "upto" ∷ []
 
 -- the words of forms but `(` and `await`, behind which something counts
 abbrev pub plainWords : Words
-plainWords =
-    ascii "=" ∷ ascii "#" ∷ ascii "isSubClockOf" ∷ ascii "strictly" ∷ ascii "precedes" ∷ ascii "clockDef" ∷ ascii "clockUnion" ∷ ascii "clockInter" ∷
-    ascii "lub" ∷ ascii "glb" ∷ ascii "sampled" ∷ ascii "upto" ∷ ascii ")" ∷ []
+plainWords = ascii ")" ∷ betweenWords
 
 -- a count along words: what a name, a pair of parentheses and an await number add to what stands behind them
 pub record Counts {A : Type 0} (M : Words → A) : Type 0 where
@@ -51,31 +55,37 @@ found-by-none q (v ∷ vs) a w e = go (sameBytes w v) refl e (found-by-none q vs
     go true p e ih = ap q (same-equal w v p) ∙ or-l (q v) (anyOf q vs) a
     go false p e ih = ih e
 
-module _ {A : Type 0} (M : Words → A) (C : Counts M) where
-  kind-passes : (k : Kind) (us : Words) → isKind k ≡ true → notAwait k ≡ true → M (kindWords k ++ us) ≡ M us
+-- what passes over those words passes over the words of a kind, and over `clockDef`
+module _ {A : Type 0} (M : Words → A) (passes : (w : Word) (us : Words) → oneOf betweenWords w ≡ true → M (w ∷ us) ≡ M us) where
+  pub kind-passes : (k : Kind) (us : Words) → isKind k ≡ true → notAwait k ≡ true → M (kindWords k ++ us) ≡ M us
   unfolding notAwait oneOf sameBytes
   kind-passes Empty us i n = refl
-  kind-passes (Relates Coincides) us i n = C .passes (ascii "=") us refl
-  kind-passes (Relates Excludes) us i n = C .passes (ascii "#") us refl
-  kind-passes (Relates SubClock) us i n = C .passes (ascii "isSubClockOf") us refl
-  kind-passes (Relates StrictlyPrecedes) us i n = C .passes (ascii "strictly") (ascii "precedes" ∷ us) refl ∙ C .passes (ascii "precedes") us refl
-  kind-passes (Relates Precedes) us i n = C .passes (ascii "precedes") us refl
-  kind-passes (Defines Union) us i n = C .passes (ascii "clockUnion") us refl
-  kind-passes (Defines Inter) us i n = C .passes (ascii "clockInter") us refl
-  kind-passes (Defines Lub) us i n = C .passes (ascii "lub") us refl
-  kind-passes (Defines Glb) us i n = C .passes (ascii "glb") us refl
+  kind-passes (Relates Coincides) us i n = passes (ascii "=") us refl
+  kind-passes (Relates Excludes) us i n = passes (ascii "#") us refl
+  kind-passes (Relates SubClock) us i n = passes (ascii "isSubClockOf") us refl
+  kind-passes (Relates StrictlyPrecedes) us i n = passes (ascii "strictly") (ascii "precedes" ∷ us) refl ∙ passes (ascii "precedes") us refl
+  kind-passes (Relates Precedes) us i n = passes (ascii "precedes") us refl
+  kind-passes (Defines Union) us i n = passes (ascii "clockUnion") us refl
+  kind-passes (Defines Inter) us i n = passes (ascii "clockInter") us refl
+  kind-passes (Defines Lub) us i n = passes (ascii "lub") us refl
+  kind-passes (Defines Glb) us i n = passes (ascii "glb") us refl
   kind-passes (Defines AwaitKind) us i n = absurd (false≢true n)
-  kind-passes (Defines StrictlySampled) us i n = C .passes (ascii "strictly") (ascii "sampled" ∷ us) refl ∙ C .passes (ascii "sampled") us refl
-  kind-passes (Defines Sampled) us i n = C .passes (ascii "sampled") us refl
-  kind-passes (Defines Upto) us i n = C .passes (ascii "upto") us refl
+  kind-passes (Defines StrictlySampled) us i n = passes (ascii "strictly") (ascii "sampled" ∷ us) refl ∙ passes (ascii "sampled") us refl
+  kind-passes (Defines Sampled) us i n = passes (ascii "sampled") us refl
+  kind-passes (Defines Upto) us i n = passes (ascii "upto") us refl
+
+  pub def-passes : (us : Words) → M (ascii "clockDef" ∷ us) ≡ M us
+  unfolding oneOf sameBytes
+  def-passes us = passes (ascii "clockDef") us refl
+
+module _ {A : Type 0} (M : Words → A) (C : Counts M) where
+  between-passes : (w : Word) (us : Words) → oneOf betweenWords w ≡ true → M (w ∷ us) ≡ M us
+  unfolding oneOf
+  between-passes w us h = C .passes w us (rw h (or-true (sameBytes w (ascii ")"))))
 
   close-passes : (us : Words) → M (ascii ")" ∷ us) ≡ M us
   unfolding oneOf sameBytes
   close-passes us = C .passes (ascii ")") us refl
-
-  def-passes : (us : Words) → M (ascii "clockDef" ∷ us) ≡ M us
-  unfolding oneOf sameBytes
-  def-passes us = C .passes (ascii "clockDef") us refl
 
   abbrev pub adds : Operand → A → A
   adds (name w) z = C .named w z
@@ -94,10 +104,9 @@ module _ {A : Type 0} (M : Words → A) (C : Counts M) where
   module _ (IsOp : Words → Operand → Type 0) (operand : (a us : Words) (x : Operand) → IsOp a x → M (a ++ us) ≡ adds x (M us)) where
     pair-adds : (k : Kind) (x y : Operand) (ws us : Words) → Between Operand IsOp k x y ws → M (ws ++ us) ≡ adds x (adds y (M us))
     pair-adds k x y ws us p =
-        ap (λ (z : Words). M (z ++ us)) (p .words)
-        ∙ ap M (append-assoc (p .a) (kindWords k ++ p .c) us ∙ ap (λ (z : Words). p .a ++ z) (append-assoc (kindWords k) (p .c) us))
+        ap M (onward Operand IsOp k x y ws us p)
         ∙ operand (p .a) (kindWords k ++ (p .c ++ us)) x (p .first)
-        ∙ ap (adds x) (kind-passes k (p .c ++ us) (p .kind) (p .plainly) ∙ operand (p .c) us y (p .second))
+        ∙ ap (adds x) (kind-passes M between-passes k (p .c ++ us) (p .kind) (p .plainly) ∙ operand (p .c) us y (p .second))
 
     side-adds : (ws us : Words) (r : Right Operand) → IsRight IsOp ws r → M (ws ++ us) ≡ addsSide r (M us)
     side-adds ws us r h = go r (right-shape Operand IsOp ws r h)
@@ -112,7 +121,7 @@ module _ {A : Type 0} (M : Words → A) (C : Counts M) where
         go : (f : Form Operand) → Shape Operand IsOp ws f → M (ws ++ []) ≡ addsForm f (M [])
         go f (relation {k = k} {x = x} {y = y} p) = pair-adds (Relates k) x y ws [] p
         go f (definition {c = c} {rs = rs} {r = r} n p e) =
-            ap (λ (z : Words). M (z ++ [])) e ∙ C .of-name c (ascii "clockDef" ∷ (rs ++ [])) n ∙ ap (C .named c) (def-passes (rs ++ []) ∙ side-adds rs [] r p)
+            ap (λ (z : Words). M (z ++ [])) e ∙ C .of-name c (ascii "clockDef" ∷ (rs ++ [])) n ∙ ap (C .named c) (def-passes M between-passes (rs ++ []) ∙ side-adds rs [] r p)
 
   -- level by level
   inside-adds : (Side : Words → Right Operand → Type 0) → ((ws us : Words) (r : Right Operand) → Side ws r → M (ws ++ us) ≡ addsSide r (M us))

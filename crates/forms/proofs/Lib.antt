@@ -7,6 +7,7 @@ pub mod FormRows
 pub mod FormShapes
 pub mod FormUnique
 pub mod FormWords
+pub mod Levels
 pub mod LinesPass
 pub mod Said
 pub mod SomeLaws

@@ -15,7 +15,7 @@ use Rattle.constraint.specs.declared.Kind.the-variants.{Relates, Defines}
 use Rattle.constraint.specs.declared.Relation.the-variants.{Coincides, Precedes}
 use Rattle.text.specs.Ascii.{ascii}
 use Rattle.text.specs.Bytes.{allBytes, sameBytes}
-use Rattle.forms.specs.Forms.{Word, Words, Line, grow, parts, nonempty, linesOf, wordsOf, oneOf, nameShape, isName, Right, both, awaits, Form, relates, defines, Operand, name, both-inside, awaits-inside, inner, HasForm}
+use Rattle.forms.specs.Forms.{Word, Words, Line, grow, parts, nonempty, linesOf, wordsOf, oneOf, nameShape, isName, Right, both, awaits, Form, relates, defines, IsForm, Operand, name, both-inside, awaits-inside, inner, IsOperand, HasForm}
 
 -- ---- what is counted of a line: its names, its pairs of parentheses, and its constraints
 
@@ -78,6 +78,10 @@ opened k b = cond (eqb b 40) (suc k) (cond (eqb b 41) (k - 1) k)
 unfoldable pub tooDeep : (k : ℕ) → Line → Bool
 tooDeep k [] = false
 tooDeep k (b ∷ bs) = ltb 16 (opened k b) || tooDeep (opened k b) bs
+
+-- the claim: where 19 is not broken, sixteen levels are as good as any number of them
+abbrev pub SixteenLevelsAreEnough : Type 0
+SixteenLevelsAreEnough = (n : ℕ) (l : Line) (f : Form Operand) → tooDeep 0 l ≡ false → IsForm (IsOperand n) (wordsOf l) f → HasForm l f
 
 -- one has no partner: a closer where none stands open, or an opener at the end
 unfoldable pub unpaired : (k : ℕ) → Line → Bool
