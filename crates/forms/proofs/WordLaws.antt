@@ -11,7 +11,7 @@ use Rattle.constraint.specs.declared.Definition.the-variants.{Union, Inter, Lub
 use Rattle.constraint.specs.declared.Kind.{Kind}
 use Rattle.constraint.specs.declared.Kind.the-variants.{Empty, Relates, Defines}
 use Rattle.constraint.specs.declared.Relation.the-variants.{Coincides, Excludes, SubClock, StrictlyPrecedes, Precedes}
-use Rattle.constraint.proofs.Booleans.{and-l, and-r}
+use Rattle.constraint.proofs.Booleans.{and-l, and-r, both-ways}
 use Rattle.text.specs.Ascii.{ascii}
 use Rattle.text.specs.Bytes.{letter, digit, inClass, allBytes, sameBytes}
 use Rattle.text.specs.declared.Class.the-variants.{NameByte}
@@ -204,11 +204,6 @@ among (u ∷ us) vs a w e = go (sameBytes w u) refl e (among us vs (and-r (oneOf
     go : (x : Bool) → sameBytes w u ≡ x → (x || oneOf us w) ≡ true → (oneOf us w ≡ true → oneOf vs w ≡ true) → oneOf vs w ≡ true
     go true p e ih = ap (oneOf vs) (same-equal w u p) ∙ and-l (oneOf vs u) (allAmong us vs) a
     go false p e ih = ih e
-
-both-ways : (x y : Bool) → (x ≡ true → y ≡ true) → (y ≡ true → x ≡ true) → x ≡ y
-both-ways true y f g = sym (f refl)
-both-ways false true f g = g refl
-both-ways false false f g = refl
 
 one-of-forms : (w : Word) → oneOf (spelledWords formWords) w ≡ oneOf listedWords w
 unfolding oneOf sameBytes

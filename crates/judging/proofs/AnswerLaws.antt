@@ -25,6 +25,7 @@ use Rattle.constraint.specs.declared.Clocks.{Clocks}
 use Rattle.constraint.specs.declared.Configuration.{Configuration}
 use Rattle.constraint.specs.declared.Constraint.{Constraint}
 use Rattle.constraint.specs.declared.Word.{Word}
+use Rattle.constraint.proofs.Booleans.{untrue}
 use Rattle.constraint.proofs.Demand3.{nowhere}
 use Rattle.constraint.proofs.ImplicitLaws.{implicit-never-fails}
 use Rattle.constraint.proofs.Words.{only-zero}
@@ -94,10 +95,6 @@ module _ (test : Constraint → Word → Bool) where
   one-found n (r ∷ rs) (w ∷ ws) (suc k) both before here =
       rw (before 0 (omega arith)) (one-found (suc n) rs ws k (omega arith, omega arith) (λ i h. before (suc i) (omega arith)) here ∙ ap at (omega arith))
 
-not-true-is : (x : Bool) → (x ≡ true → ⊥) → x ≡ false
-not-true-is true n = absurd (n refl)
-not-true-is false n = refl
-
 -- ---- the two tests of a step
 module _ (rs : List Constraint) (ws : List Word) (F : Ticks) where
   abbrev holding : Constraint → Word → Bool
@@ -131,13 +128,13 @@ module _ (rs : List Constraint) (ws : List Word) (F : Ticks) where
   all-stay g i h = sym (next-at i (h .1)) ∙ g i (h .0, omega (arith, as-many))
 
   first-fails : {p : ℕ} → FirstNot rs ws (Holds rs ws F) p → firstFailing F 1 rs ws ≡ at p
-  first-fails x = one-found holding 1 rs ws (x .index) (x .there) (x .before) (not-true-is _ (x .here)) ∙ ap at (sym (x .at))
+  first-fails x = one-found holding 1 rs ws (x .index) (x .there) (x .before) (untrue _ (x .here)) ∙ ap at (sym (x .at))
 
   first-past : {p : ℕ} → FirstNot rs ws (Stays rs ws F) p → firstPast 1 rs moves ≡ at p
   first-past x =
       one-found inMillion 1 rs moves (x .index) (x .there .0, omega (arith, as-many))
       (λ i h. next-at i (omega (arith, x .there .1)) ∙ x .before i h)
-      (next-at (x .index) (x .there .1) ∙ not-true-is _ (x .here))
+      (next-at (x .index) (x .there .1) ∙ untrue _ (x .here))
       ∙ ap at (sym (x .at))
 
   none-past : All rs ws (Stays rs ws F) → firstPast 1 rs moves ≡ Nowhere
@@ -221,7 +218,7 @@ names-no-implicit : (clocks : Clocks) (rs : List Constraint) (ws : List Word) (f
 names-no-implicit clocks rs ws f i v =
     let x = v .fails in
     let same : x .index ≡ i = omega (arith, x .at) in
-    rw (← same) (implicit-never-fails clocks rs ws f (v .passes .records) (v .passes .ticks) (x .index) (x .there .0) (x .there .1) (not-true-is _ (x .here)))
+    rw (← same) (implicit-never-fails clocks rs ws f (v .passes .records) (v .passes .ticks) (x .index) (x .there .0) (x .there .1) (untrue _ (x .here)))
 
 pub every-step-answers : EveryStepAnswers
 every-step-answers clocks rs c f =

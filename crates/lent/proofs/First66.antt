@@ -46,21 +46,21 @@ many-unfit clocks earlier i (r ∷ rs) many low e =
 broken-take : (clocks : Clocks) (rs : List Constraint) → brokenRecord clocks (take 66 rs) ≡ brokenRecord clocks rs
 broken-take clocks rs = ap (λ (x : Broken). cond (countsFit clocks) x (at 0)) (first-unfit-take clocks none 1 66 rs (omega arith) (omega arith))
 
-many-broken : (clocks : Clocks) (rs : List Constraint) → 66 < length rs → brokenRecord clocks rs ≡ Nowhere → ⊥
+many-broken : (clocks : Clocks) (rs : List Constraint) → 64 < length rs → brokenRecord clocks rs ≡ Nowhere → ⊥
 many-broken clocks rs many e = many-unfit clocks none 1 rs (omega (arith, many)) (omega arith) (clocks-pass clocks rs e .1)
 
--- what is asked of records behind 59 is asked of the first 66 of them
+-- where there are more than 64 records, 59 stops what is asked behind it: so the first 66 are asked as all are
 module _ {T : Type 0} (clocks : Clocks) (asked : List Constraint → Broken → T) (stops : (p : Place) (rs qs : List Constraint) → asked rs (At p) ≡ asked qs (At p)) where
-  by-broken : (rs : List Constraint) (b : Broken) → brokenRecord clocks rs ≡ b → 66 < length rs → asked (take 66 rs) b ≡ asked rs b
-  by-broken rs Nowhere e many = absurd (many-broken clocks rs many e)
-  by-broken rs (At p) e many = stops p (take 66 rs) rs
+  pub by-broken : (qs rs : List Constraint) (b : Broken) → brokenRecord clocks rs ≡ b → 64 < length rs → asked qs b ≡ asked rs b
+  by-broken qs rs Nowhere e many = absurd (many-broken clocks rs many e)
+  by-broken qs rs (At p) e many = stops p qs rs
 
   pub asked-take : (rs : List Constraint) → asked (take 66 rs) (brokenRecord clocks (take 66 rs)) ≡ asked rs (brokenRecord clocks rs)
   asked-take rs = go (leb (length rs) 66) refl
     where
       go : (x : Bool) → leb (length rs) 66 ≡ x → asked (take 66 rs) (brokenRecord clocks (take 66 rs)) ≡ asked rs (brokenRecord clocks rs)
       go true e = rw (take-all 66 rs (leb-true (length rs) 66 e)) refl
-      go false e = rw (broken-take clocks rs) (by-broken rs (brokenRecord clocks rs) refl (leb-false (length rs) 66 e))
+      go false e = rw (broken-take clocks rs) (by-broken (take 66 rs) rs (brokenRecord clocks rs) refl (omega (arith, leb-false (length rs) 66 e)))
 
 pub step-first-66 : (clocks : Clocks) (rs : List Constraint) (c : Configuration) (f : ℕ) → stepOf clocks (take 66 rs) c f ≡ stepOf clocks rs c f
 unfolding stepOf

@@ -1,15 +1,17 @@
 -- Records in 64 slots: one record more, and what 59 says of them. What a start says, and what a step from it is. Assumes nothing.
 use mathlib.Core.Path.{_≡_, refl, ap}
 use mathlib.Core.List.{List, [], _∷_}
-use mathlib.Core.Bool.{cond}
+use mathlib.Core.Bool.{Bool, true, false, cond}
 use Prim.Native.Nat.{ℕ, zero, suc, _+_, _≤_, _<_}
 use native.Mathlib.Numerals.{add-one}
 use native.Mathlib.Omega.{arith}
-use borrow.Author.Tests.{lt-leb}
+use borrow.Author.Tests.{lt-leb, leb-true, leb-false}
+use lib.Dec.{leb}
 use lib.ListN.{length, take, getD, set}
 use lib.Seq.{length-take-le}
 use Rattle.limit.specs.Limit.{numberOf}
 use Rattle.limit.specs.declared.Check.the-variants.{Passed, Refused}
+use Rattle.limit.specs.declared.Place.{Place}
 use Rattle.limit.proofs.Numbers.{refusals-differ}
 use Rattle.constraint.specs.Lists.{at, slots, recordFits, firstUnfit, countsFit, brokenRecord}
 use Rattle.constraint.specs.Meaning.{definedOf}
@@ -19,10 +21,11 @@ use Rattle.constraint.specs.declared.Broken.the-variants.{Nowhere, At}
 use Rattle.constraint.specs.declared.Clocks.{Clocks}
 use Rattle.constraint.specs.declared.Constraint.{Constraint}
 use Rattle.constraint.proofs.OneMore.{start-passes}
+use Rattle.constraint.proofs.Slots.{slots-slots}
 use Rattle.judging.specs.Single.{stepOf}
 use Rattle.lent.specs.Lent.{atMost, lent}
 use Rattle.lent.specs.Start.{StartSaidDetermines, startAt, startOf, Starts, EveryStart}
-use Rattle.lent.proofs.First66.{asked-take}
+use Rattle.lent.proofs.First66.{by-broken, asked-take}
 use Rattle.lent.proofs.LentLaws.{few-lent}
 
 -- ---- the first of a list, in k slots
@@ -54,6 +57,15 @@ unfit-slots clocks earlier i (suc k) (r ∷ rs) e =
 
 pub broken-slots : (clocks : Clocks) (n : ℕ) (rs : List Constraint) → length rs ≡ n → brokenRecord clocks (slots n (slots 64 rs)) ≡ brokenRecord clocks rs
 broken-slots clocks n rs e = rw (← e) (ap (λ (b : Broken). cond (countsFit clocks) b (at 0)) (unfit-slots clocks none 1 64 rs refl))
+
+-- what is asked behind 59 of a list in 64 slots is asked of the list
+pub asked-slots : {T : Type 0} (clocks : Clocks) (asked : List Constraint → Broken → T) (stops : (p : Place) (rs qs : List Constraint) → asked rs (At p) ≡ asked qs (At p)) (rs : List Constraint)
+    → asked (slots (length rs) (slots 64 rs)) (brokenRecord clocks (slots (length rs) (slots 64 rs))) ≡ asked rs (brokenRecord clocks rs)
+asked-slots clocks asked stops rs = go (leb (length rs) 64) refl
+  where
+    go : (x : Bool) → leb (length rs) 64 ≡ x → asked (slots (length rs) (slots 64 rs)) (brokenRecord clocks (slots (length rs) (slots 64 rs))) ≡ asked rs (brokenRecord clocks rs)
+    go true e = rw (slots-slots 64 rs (leb-true (length rs) 64 e)) refl
+    go false e = rw (broken-slots clocks (length rs) rs refl) (by-broken clocks asked stops _ rs (brokenRecord clocks rs) refl (leb-false (length rs) 64 e))
 
 pub length-lent : (count : ℕ) (rs : List Constraint) → length rs ≡ 66 → length (lent count rs) ≡ atMost count
 length-lent count rs e = length-take-le (atMost count) rs (omega (arith, e, few-lent count (atMost count) refl))

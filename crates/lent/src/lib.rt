@@ -11,6 +11,7 @@ use constraint::Configuration;
 use constraint::Word;
 use judging::StepAnswer;
 use limit::Check;
+pub use start::first_64;
 pub use start::start_on;
 pub use walks::advance;
 pub use walks::advance_on;

@@ -17,7 +17,7 @@ ghost use Rattle.lent.specs.Lent.{lent};
 ghost use Rattle.lent.specs.Start.{startTold, startOf};
 
 // The first n records of an array in 64 slots, empty behind the last.
-fn first_64(records: [Constraint; 66], n: usize) -> [Constraint; 64]
+pub fn first_64(records: [Constraint; 66], n: usize) -> [Constraint; 64]
     ensures { λ r. ⌜ r ≡ slots 64 (take n records) ⌝ }
 {
     let mut first = [constraint::empty(); 64];
