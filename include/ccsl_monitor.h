@@ -30,12 +30,14 @@ enum {
     CCSL_RECORDS_SHORT = 3,  /* ccsl_read_table: `records` has fewer than CCSL_RECORDS * CCSL_RECORD numbers */
     CCSL_NAMES_SHORT = 4,    /* ccsl_read_table: `names` has fewer than CCSL_CLOCKS * 2 numbers */
     CCSL_RECORDS_RAGGED = 5, /* the calls on records: the numbers of `records` do not come in sixes */
-    CCSL_KIND_UNKNOWN = 6    /* the same calls: a record's kind is above CCSL_UPTO */
+    CCSL_KIND_UNKNOWN = 6,   /* the same calls: a record's kind is above CCSL_UPTO */
+    CCSL_ORDER_SHORT = 7     /* ccsl_definition_order: `order` has fewer than CCSL_CLOCKS numbers */
 };
 
 /* The first number of every answer. */
 enum {
-    CCSL_ACCEPTED = 0, /* of ccsl_read_table: the table was read; of ccsl_start_words: started; of ccsl_same_place: the same place */
+    CCSL_ACCEPTED = 0, /* of ccsl_read_table: the table was read; of ccsl_start_words: started; of ccsl_same_place: the same place; of
+                        * ccsl_definition_order: listed */
     CCSL_VIOLATED = 1, /* of ccsl_same_place: different places */
     CCSL_REFUSED = 2
 };
@@ -50,7 +52,8 @@ enum {
     CCSL_READ_ANSWER = 6,
     CCSL_START_ANSWER = 3,
     CCSL_STEP_ANSWER = 3,
-    CCSL_PLACE_ANSWER = 3
+    CCSL_PLACE_ANSWER = 3,
+    CCSL_ORDER_ANSWER = 4
 };
 
 /* The kind of a record. A record is six numbers: its kind; the numbers of the clocks c, a and b; the number n of an await; the table line.
@@ -138,6 +141,18 @@ uint32_t ccsl_same_place(const uint64_t *records, size_t records_len,
                          const int64_t *first, size_t first_len,
                          const int64_t *second, size_t second_len,
                          uint64_t *answer, size_t answer_len);
+
+/* The definition records in working order: each comes after those that define its operands, the lowest that is ready each time. Every record
+ * keeps its number, from 1; relations and empty records are not listed. An operand that no record defines is waited for by none.
+ * answer, 4 numbers: CCSL_ACCEPTED, 0, 0; or CCSL_REFUSED, 59, the place, as in ccsl_start_words; or, where there is no such order,
+ * CCSL_REFUSED, 21, the lowest record that lies on a circle of definitions; then how many records are listed, 0 where they are refused. The
+ * other calls judge records with a circle as any others.
+ * order, 32 numbers: the numbers of the records, 0 behind the last; each record defines another clock, so that there are no more.
+ * CCSL_ANSWER_SHORT, CCSL_RECORDS_RAGGED, CCSL_KIND_UNKNOWN, CCSL_ORDER_SHORT. More than 64 records: as in ccsl_start_words. */
+uint32_t ccsl_definition_order(const uint64_t *records, size_t records_len,
+                               uint32_t named, uint32_t clocks,
+                               uint64_t *answer, size_t answer_len,
+                               uint64_t *order, size_t order_len);
 
 #ifdef __cplusplus
 }

@@ -11,8 +11,9 @@ use lib.Seq.{sets}
 use Rattle.constraint.specs.SamePlace.{samePlaceOf}
 use Rattle.table.specs.Reader.{readTable}
 use Rattle.run.specs.Run.{runOf}
+use Rattle.order.specs.Order.{orderOf}
 use Rattle.monitor_c.specs.declared.AnswerNumbers.{AnswerNumbers}
-use Rattle.monitor_c.specs.Calls.{written, answerShort, wordsShort, recordsShort, namesShort, recordsRagged, kindUnknown, Left, left, runLeft, runInto, tableLeft, readLeft, readInto, onRecords, answerLeft, placeLeft, placeInto}
+use Rattle.monitor_c.specs.Calls.{written, answerShort, wordsShort, recordsShort, namesShort, recordsRagged, kindUnknown, Left, left, runLeft, runInto, tableLeft, readLeft, readInto, onRecords, answerLeft, placeLeft, placeInto, orderShort, orderLeft, orderedLeft, orderInto}
 use Rattle.monitor_c.specs.Numbers.{clocksOf, recordsOf, kindsKnown, configurationOf, answerAnd}
 use Rattle.monitor_c.proofs.ListLaws.{sets-append, sets-written}
 
@@ -107,3 +108,26 @@ module _ (ns : List ℕ) (named clocks : ℕ) (ws vs : List ℤ) (out : List ℕ
       → placeLeft (samePlaceOf (clocksOf named clocks) (recordsOf ns) (configurationOf ws .words) (configurationOf vs .words)) out ≡ placeInto ns named clocks ws vs out
   unfolding placeInto
   place-done a w v r k = rw (le-ltb (length out) 3 a, le-ltb (length ws) 64 w, le-ltb (length vs) 64 v, eq-eqb (length ns % 6) 0 r, k) refl
+
+-- ---- ccsl_definition_order
+
+module _ (ns : List ℕ) (named clocks : ℕ) (out os : List ℕ) where
+  pub order-answer-short : length out < 4 → orderLeft answerShort out os ≡ orderInto ns named clocks out os
+  unfolding orderInto
+  order-answer-short a = rw (lt-ltb (length out) 4 a) refl
+
+  pub order-ragged : 4 ≤ length out → (length ns % 6 ≡ 0 → ⊥) → orderLeft recordsRagged out os ≡ orderInto ns named clocks out os
+  unfolding orderInto
+  order-ragged a r = rw (le-ltb (length out) 4 a, ne-eqb (length ns % 6) 0 r) refl
+
+  pub order-unknown : 4 ≤ length out → length ns % 6 ≡ 0 → kindsKnown ns ≡ false → orderLeft kindUnknown out os ≡ orderInto ns named clocks out os
+  unfolding orderInto
+  order-unknown a r k = rw (le-ltb (length out) 4 a, eq-eqb (length ns % 6) 0 r, k) refl
+
+  pub order-short : 4 ≤ length out → length ns % 6 ≡ 0 → kindsKnown ns ≡ true → length os < 32 → orderLeft orderShort out os ≡ orderInto ns named clocks out os
+  unfolding orderInto
+  order-short a r k o = rw (le-ltb (length out) 4 a, eq-eqb (length ns % 6) 0 r, k, lt-ltb (length os) 32 o) refl
+
+  pub order-done : 4 ≤ length out → length ns % 6 ≡ 0 → kindsKnown ns ≡ true → 32 ≤ length os → orderedLeft (orderOf (clocksOf named clocks) (recordsOf ns)) out os ≡ orderInto ns named clocks out os
+  unfolding orderInto
+  order-done a r k o = rw (le-ltb (length out) 4 a, eq-eqb (length ns % 6) 0 r, k, le-ltb (length os) 32 o) refl

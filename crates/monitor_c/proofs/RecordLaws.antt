@@ -1,14 +1,14 @@
 -- Records in rows of numbers: one more, none left, how many; and the records that a doorway lends, the first 66. Assumes nothing.
-use mathlib.Core.Path.{_≡_, refl, sym, _∙_}
+use mathlib.Core.Path.{_≡_, refl, sym, ap, _∙_}
 use mathlib.Core.Bool.{Bool, true, false, cond}
 use mathlib.Core.List.{List, [], _∷_}
 use Prim.Native.Nat.{ℕ, _+_, _*_, _/_, _≤_, _<_}
 use native.Mathlib.Omega.{arith}
 use borrow.Author.Tests.{leb-true, leb-false}
 use lib.Dec.{leb}
-use lib.ListN.{length, drop, take, replicate, length-drop, length-map}
+use lib.ListN.{length, drop, take, replicate, length-drop, length-take, length-map}
 use lib.Seq.{sets, take-all, take-take, take-append-seam}
-use Rattle.constraint.specs.Lists.{empty}
+use Rattle.constraint.specs.Lists.{empty, slots}
 use Rattle.constraint.specs.SamePlace.{samePlaceOf}
 use Rattle.constraint.specs.declared.Clocks.{Clocks}
 use Rattle.constraint.specs.declared.Configuration.{Configuration}
@@ -17,7 +17,9 @@ use Rattle.constraint.specs.declared.Word.{Word}
 use Rattle.lent.specs.Lent.{lent}
 use Rattle.lent.specs.Start.{startOf}
 use Rattle.lent.proofs.First66.{step-first-66, place-first-66}
-use Rattle.lent.proofs.StartLaws.{start-first-66}
+use Rattle.lent.proofs.StartLaws.{slots-stop, asked-slots, start-first-66}
+use Rattle.order.specs.Order.{definitions, restsOn, orderAt, orderOf}
+use Rattle.order.specs.Rests.{order, circle}
 use Rattle.judging.specs.Single.{stepOf}
 use Rattle.monitor_c.specs.Numbers.{atMost, recordOf, recordsOf, rows, rowAt}
 use Rattle.text.proofs.Bytes.{drop-next}
@@ -92,6 +94,24 @@ lent-numbers ns = rw (how-many ns, sym (length-map (rows ns) recordOf)) (lent-re
 
 pub start-lent : (clocks : Clocks) (ns : List ℕ) → startOf clocks (lent (length ns / 6) (sets (replicate 66 empty) 0 (recordsOf ns))) ≡ startOf clocks (recordsOf ns)
 start-lent clocks ns = rw (lent-numbers ns) (start-first-66 clocks (recordsOf ns))
+
+-- in 64 slots
+slots-lent : (rs : List Constraint) → slots 64 (take (length rs) (sets (replicate 66 empty) 0 rs)) ≡ slots 64 rs
+slots-lent rs = go (leb (length rs) 66) refl
+  where
+    go : (x : Bool) → leb (length rs) 66 ≡ x → slots 64 (take (length rs) (sets (replicate 66 empty) 0 rs)) ≡ slots 64 rs
+    go true e = rw (sets-written rs (replicate 66 empty) (leb-true (length rs) 66 e), take-append-seam rs (drop (length rs) (replicate 66 empty))) refl
+    go false e =
+        let many : 66 < length rs = leb-false (length rs) 66 e in
+        rw (sets-all rs (replicate 66 empty) (omega (arith, many)), take-all (length rs) (take 66 rs) (omega (arith, many, length-take 66 rs)))
+        (slots-stop 64 rs 66 (length rs) (omega arith) (omega (arith, many)) ∙ ap (slots 64) (take-all (length rs) rs (omega arith)))
+
+pub order-lent : (clocks : Clocks) (ns : List ℕ)
+    → orderOf clocks (slots (length ns / 6) (slots 64 (take (length ns / 6) (sets (replicate 66 empty) 0 (recordsOf ns))))) ≡ orderOf clocks (recordsOf ns)
+unfolding orderOf
+order-lent clocks ns =
+    rw (how-many ns, sym (length-map (rows ns) recordOf), slots-lent (recordsOf ns))
+    (asked-slots clocks (λ qs b. orderAt b (circle (restsOn qs) (definitions qs)) (order (restsOn qs) (definitions qs))) (λ p qs us. refl) (recordsOf ns))
 
 pub step-lent : (clocks : Clocks) (ns : List ℕ) (c : Configuration) (f : ℕ)
     → stepOf clocks (lent (length ns / 6) (sets (replicate 66 empty) 0 (recordsOf ns))) c f ≡ stepOf clocks (recordsOf ns) c f

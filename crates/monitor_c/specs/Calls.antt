@@ -13,7 +13,8 @@ use Rattle.table.specs.Reader as table
 use Rattle.run.specs.Run as run
 use Rattle.judging.specs.Single as single
 use Rattle.lent.specs.Start as start
-use Rattle.monitor_c.specs.Numbers.{clocksOf, recordsOf, kindsKnown, recordNumbers, nameNumbers, configurationOf, wordNumbers, ofRun, ofTable, ofStart, ofStep, ofPlace, answerAnd}
+use Rattle.order.specs.Order as order
+use Rattle.monitor_c.specs.Numbers.{clocksOf, recordsOf, kindsKnown, recordNumbers, nameNumbers, configurationOf, wordNumbers, ofRun, ofTable, ofStart, ofStep, ofPlace, ofOrder, answerAnd}
 use Rattle.monitor_c.specs.declared.AnswerNumbers.{AnswerNumbers}
 
 -- numbers, in the place of the first of a list; the rest is left alone
@@ -42,6 +43,9 @@ recordsRagged = 5
 
 abbrev pub kindUnknown : ℕ
 kindUnknown = 6
+
+abbrev pub orderShort : ℕ
+orderShort = 7
 
 -- the numbers of `records` do not come in rows
 abbrev pub ragged : List ℕ → Bool
@@ -144,3 +148,25 @@ placeInto ns named clocks ws vs out =
     (cond (ragged ns) (answerLeft recordsRagged out)
     (cond (not (kindsKnown ns)) (answerLeft kindUnknown out)
     (placeLeft (samePlaceOf (clocksOf named clocks) (recordsOf ns) (configurationOf ws .words) (configurationOf vs .words)) out)))))
+
+-- ---- ccsl_definition_order
+
+pub record OrderLeft : Type 0 where
+  pub status : ℕ
+  pub answer : List ℕ
+  pub order : List ℕ
+
+abbrev pub orderLeft : (status : ℕ) → (answer order : List ℕ) → OrderLeft
+orderLeft s out os = record { status = s; answer = out; order = os }
+
+-- behind the answer: how many records are listed
+abbrev pub orderedLeft : order.OrderTold → (answer order : List ℕ) → OrderLeft
+orderedLeft t out os = orderLeft done (written (answerAnd (ofOrder (t .said)) (t .count ∷ [])) out) (written (t .records) os)
+
+unfoldable pub orderInto : (records : List ℕ) → (named clocks : ℕ) → (answer order : List ℕ) → OrderLeft
+orderInto ns named clocks out os =
+    cond (short out 4) (orderLeft answerShort out os)
+    (cond (ragged ns) (orderLeft recordsRagged out os)
+    (cond (not (kindsKnown ns)) (orderLeft kindUnknown out os)
+    (cond (short os 32) (orderLeft orderShort out os)
+    (orderedLeft (order.orderOf (clocksOf named clocks) (recordsOf ns)) out os))))

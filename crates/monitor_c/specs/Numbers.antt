@@ -21,6 +21,7 @@ use Rattle.table.specs.Reader as table
 use Rattle.run.specs.Run as run
 use Rattle.judging.specs.Single as single
 use Rattle.lent.specs.Start as start
+use Rattle.order.specs.Order as order
 use Rattle.monitor_c.specs.declared.AnswerNumbers.{AnswerNumbers}
 
 -- ---- kinds
@@ -166,6 +167,10 @@ abbrev pub ofPlace : place.Answer → AnswerNumbers
 ofPlace place.same = answerNumbers 0 0 0
 ofPlace place.different = answerNumbers 1 0 0
 ofPlace (place.refused number p) = answerNumbers 2 number p
+
+abbrev pub ofOrder : order.OrderSaid → AnswerNumbers
+ofOrder order.listed = answerNumbers 0 0 0
+ofOrder (order.refused number place) = answerNumbers 2 number place
 
 -- the numbers of an answer, with others behind them
 abbrev pub answerAnd : AnswerNumbers → List ℕ → List ℕ

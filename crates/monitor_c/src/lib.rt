@@ -7,6 +7,7 @@ mod records;
 use lists::configuration_of;
 use lists::put_answer;
 use lists::put_names;
+use lists::put_order;
 use lists::put_records;
 use lists::put_words;
 use numbers::check_numbers;
@@ -17,7 +18,7 @@ use records::clocks_of;
 use records::kinds_known;
 use records::records_of;
 ghost use mathlib.Core.Path.{_≡_};
-ghost use Rattle.monitor_c.specs.Calls.{left, runInto, tableLeft, readInto, startInto, stepInto, answerLeft, placeInto};
+ghost use Rattle.monitor_c.specs.Calls.{left, runInto, tableLeft, readInto, startInto, stepInto, answerLeft, placeInto, orderLeft, orderInto};
 
 // What every call returns, in the order of the checks.
 pub const DONE: u32 = 0;
@@ -33,6 +34,8 @@ pub const NAMES_SHORT: u32 = 4;
 pub const RECORDS_RAGGED: u32 = 5;
 
 pub const KIND_UNKNOWN: u32 = 6;
+
+pub const ORDER_SHORT: u32 = 7;
 
 // An answer: what is said, and its two numbers, 0 where it has none.
 pub struct AnswerNumbers {
@@ -211,5 +214,42 @@ pub extern "C" fn ccsl_same_place(
         configuration_of(second),
     );
     put_answer(answer, place_numbers(place));
+    DONE
+}
+
+// The definitions of records in working order.
+#[no_mangle]
+pub extern "C" fn ccsl_definition_order(
+    records: &[u64],
+    named: u32,
+    clocks: u32,
+    answer: &mut [u64],
+    order: &mut [u64],
+) -> u32
+    ensures { λ r. ⌜ orderLeft r (now (answer .exit)) (now (order .exit)) ≡ orderInto (now (records .entry)) named clocks (now (answer .entry)) (now (order .entry)) ⌝ }
+{
+    if answer.len() < 4 {
+        return ANSWER_SHORT;
+    }
+    if records.len() % 6 != 0 {
+        return RECORDS_RAGGED;
+    }
+    if !kinds_known(records) {
+        return KIND_UNKNOWN;
+    }
+    if order.len() < 32 {
+        return ORDER_SHORT;
+    }
+    let count = records.len() / 6;
+    let ordered = order::definition_order(
+        lent::first_64(records_of(records), count),
+        count,
+        clocks_of(named, clocks),
+    );
+    let outcome = ordered.outcome;
+    let listed = ordered.records;
+    put_answer(answer, check_numbers(outcome));
+    answer[3] = ordered.count as u64;
+    put_order(order, listed);
     DONE
 }

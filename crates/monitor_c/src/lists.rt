@@ -79,6 +79,18 @@ pub fn put_names(numbers: &mut [u64], spans: [Span; 32])
     }
 }
 
+// Writes the numbers of listed records.
+pub fn put_order(numbers: &mut [u64], records: [usize; 32])
+    requires { ⌜ 32 ≤ length (now numbers) ⌝ }
+    ensures { λ r. ⌜ now (numbers .exit) ≡ written records (now (numbers .entry)) ⌝ }
+{
+    let mut i: usize = 0;
+    while i < 32 {
+        numbers[i] = records[i] as u64;
+        i += 1;
+    }
+}
+
 // The configuration with the first 64 words.
 pub fn configuration_of(words: &[i64]) -> Configuration
     requires { ⌜ 64 ≤ length (now words) ⌝ }

@@ -16,7 +16,8 @@ ghost use Rattle.table.specs.Reader as reader;
 ghost use Rattle.run.specs.Run as run;
 ghost use Rattle.judging.specs.Single as single;
 ghost use Rattle.lent.specs.Start as start;
-ghost use Rattle.monitor_c.specs.Numbers.{atMost, kindNumber, kindOf, answerNumbers, ofRun, ofTable, ofStart, ofStep, ofPlace};
+ghost use Rattle.order.specs.Order as order;
+ghost use Rattle.monitor_c.specs.Numbers.{atMost, kindNumber, kindOf, answerNumbers, ofRun, ofTable, ofStart, ofStep, ofPlace, ofOrder};
 
 // n, or the most that is let pass.
 pub fn at_most(most: u64, n: u64) -> u64
@@ -162,6 +163,7 @@ pub fn verdict_numbers(verdict: Verdict) -> AnswerNumbers
 pub fn check_numbers(outcome: Check) -> AnswerNumbers
     ensures table { λ r. ⌜ r ≡ ofTable (reader.said outcome) ⌝ }
     ensures start { λ r. ⌜ r ≡ ofStart (start.startSaid outcome) ⌝ }
+    ensures order { λ r. ⌜ r ≡ ofOrder (order.orderSaid outcome) ⌝ }
 {
     match outcome {
         Check::Passed => said(0),

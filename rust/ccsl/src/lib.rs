@@ -20,6 +20,14 @@
 //! assert_eq!(monitor.words()[0], 1);
 //! ```
 //!
+//! Definitions can be asked for in working order, each after those of its operands:
+//!
+//! ```
+//! let table = ccsl::read_table(b"d clockDef c upto stop\nc clockDef a lub b").unwrap();
+//! let order = ccsl::definition_order(&table.records, table.counts());
+//! assert_eq!(order, Ok(vec![2, 1]));
+//! ```
+//!
 //! An expression in parentheses is an implicit clock, which no tick set holds:
 //!
 //! ```
@@ -353,6 +361,29 @@ pub fn same_place(
     }
 }
 
+/// The definition records in working order, by their numbers, from 1: each comes after those that
+/// define its operands, the lowest that is ready each time. Refused with 59, or with 21 where there
+/// is no such order, at the lowest record that lies on a circle of definitions.
+pub fn definition_order(records: &[Record], clocks: Clocks) -> Result<Vec<usize>, Refusal> {
+    let mut answer = [0; raw::ORDER_ANSWER];
+    let mut order = [0; raw::CLOCKS];
+    done(raw::definition_order(
+        &numbers(records),
+        clocks.named,
+        clocks.count,
+        &mut answer,
+        &mut order,
+    ));
+    let [outcome, number, place, listed] = answer;
+    if outcome != raw::ACCEPTED {
+        return Err(Refusal { number, place });
+    }
+    Ok(order[..listed as usize]
+        .iter()
+        .map(|&record| record as usize)
+        .collect())
+}
+
 /// One step on records that are numbers already.
 fn step_by_numbers(
     records: &[u64],
@@ -430,12 +461,18 @@ impl fmt::Display for Time {
     }
 }
 
+impl fmt::Display for Refusal {
+    fn fmt(&self, f: &mut fmt::Formatter<'_>) -> fmt::Result {
+        write!(f, "refused {} {}", self.number, self.place)
+    }
+}
+
 impl fmt::Display for Verdict {
     fn fmt(&self, f: &mut fmt::Formatter<'_>) -> fmt::Result {
         match self {
             Verdict::Accepted => write!(f, "accepted"),
             Verdict::Violated { line, time } => write!(f, "violated {line} {time}"),
-            Verdict::Refused(Refusal { number, place }) => write!(f, "refused {number} {place}"),
+            Verdict::Refused(refusal) => refusal.fmt(f),
         }
     }
 }

@@ -62,6 +62,17 @@ mod header {
             answer: *mut u64,
             answer_len: usize,
         ) -> u32;
+
+        pub fn ccsl_definition_order(
+            records: *const u64,
+            records_len: usize,
+            named: u32,
+            clocks: u32,
+            answer: *mut u64,
+            answer_len: usize,
+            order: *mut u64,
+            order_len: usize,
+        ) -> u32;
     }
 }
 
@@ -79,8 +90,10 @@ pub const NAMES_SHORT: u32 = 4;
 pub const RECORDS_RAGGED: u32 = 5;
 /// A record's kind is above that of `upto`.
 pub const KIND_UNKNOWN: u32 = 6;
+/// [`definition_order`]: `order` has fewer than 32 numbers.
+pub const ORDER_SHORT: u32 = 7;
 
-/// The first number of an answer: accepted, read, started, or the same place.
+/// The first number of an answer: accepted, read, started, listed, or the same place.
 pub const ACCEPTED: u64 = 0;
 /// The first number of an answer: violated, or different places.
 pub const VIOLATED: u64 = 1;
@@ -97,11 +110,14 @@ pub const START_ANSWER: usize = 3;
 pub const STEP_ANSWER: usize = 3;
 /// Numbers that [`same_place`] writes into `answer`.
 pub const PLACE_ANSWER: usize = 3;
+/// Numbers that [`definition_order`] writes into `answer`.
+pub const ORDER_ANSWER: usize = 4;
 /// Numbers of a record: kind, c, a, b, n, line.
 pub const RECORD: usize = 6;
 /// Records that [`read_table`] writes.
 pub const RECORDS: usize = 64;
-/// Pairs that [`read_table`] writes into `names`.
+/// Pairs that [`read_table`] writes into `names`, and numbers that [`definition_order`] writes into
+/// `order`.
 pub const CLOCKS: usize = 32;
 /// Words of a configuration.
 pub const WORDS: usize = 64;
@@ -212,6 +228,29 @@ pub fn same_place(
             second.len(),
             answer.as_mut_ptr(),
             answer.len(),
+        )
+    }
+}
+
+/// `ccsl_definition_order`.
+pub fn definition_order(
+    records: &[u64],
+    named: u32,
+    clocks: u32,
+    answer: &mut [u64],
+    order: &mut [u64],
+) -> u32 {
+    // SAFETY: as in `run`.
+    unsafe {
+        header::ccsl_definition_order(
+            records.as_ptr(),
+            records.len(),
+            named,
+            clocks,
+            answer.as_mut_ptr(),
+            answer.len(),
+            order.as_mut_ptr(),
+            order.len(),
         )
     }
 }

@@ -32,6 +32,14 @@ fn definition(kind: Kind, defined: u64, first: u64, second: u64) -> Record {
     }
 }
 
+/// `c clockDef await 1 a`, with any b.
+fn awaits(defined: u64, first: u64, second: u64) -> Record {
+    Record {
+        number: 1,
+        ..definition(Kind::Await, defined, first, second)
+    }
+}
+
 fn all_named(count: u32) -> Clocks {
     Clocks::all_named(count)
 }
@@ -136,6 +144,8 @@ fn calls_run_at_once_from_several_threads() {
                         (answer, words),
                         (StepAnswer::Accepted, configuration(&[1, 2]))
                     );
+                    let order = ccsl::definition_order(&table.records, all_named(3));
+                    assert_eq!(order, Ok(vec![2]));
                 }
             });
         }
@@ -189,6 +199,7 @@ fn records_that_a_step_refuses_do_not_start() {
         let (refusal, clocks) = (Refusal { number: 59, place }, all_named(clocks));
         assert_eq!(ccsl::start_words(&records, clocks), Err(refusal));
         assert_eq!(Monitor::of_records(&records, clocks), Err(refusal));
+        assert_eq!(ccsl::definition_order(&records, clocks), Err(refusal));
         let mut words = configuration(&[]);
         assert_eq!(
             ccsl::step(&records, clocks, &mut words, 0),
@@ -364,10 +375,12 @@ fn a_word_of_an_implicit_clock_has_its_million() {
     assert_eq!(words, configuration(&[1_000_000]));
 }
 
-/// What the three calls on records say of 59, which is the same.
+/// What the four calls on records say of 59, which is the same.
 fn place_of_59(records: &[Record], clocks: Clocks) -> Option<u64> {
     let place = |r: Refusal| (r.number == 59).then_some(r.place);
     let start = ccsl::start_words(records, clocks).err().and_then(place);
+    let order = ccsl::definition_order(records, clocks).err();
+    assert_eq!(order.and_then(place), start);
     let mut words = configuration(&[]);
     let step = match ccsl::step(records, clocks, &mut words, 0) {
         StepAnswer::Refused(refusal) => place(refusal),
@@ -413,10 +426,6 @@ fn an_implicit_clock_without_a_definition_above_is_59() {
     let lub = definition(Kind::Lub, 2, 0, 1);
     let first = relation(Kind::Excludes, 2, 0);
     let second = relation(Kind::Excludes, 0, 2);
-    let awaits = |first, second| Record {
-        number: 1,
-        ..definition(Kind::Await, 1, first, second)
-    };
     let upto = definition(Kind::Upto, 3, 0, 2);
     let unused = Record {
         defined: 2,
@@ -430,8 +439,8 @@ fn an_implicit_clock_without_a_definition_above_is_59() {
         (&[first, lub], Some(1)),
         (&[relation(Kind::Excludes, 0, 1), second, lub], Some(2)),
         (&[lub], None),
-        (&[awaits(2, 0)], Some(1)),
-        (&[awaits(0, 2)], None),
+        (&[awaits(1, 2, 0)], Some(1)),
+        (&[awaits(1, 0, 2)], None),
         (&[unused, upto], Some(2)),
         (&[lub, upto, relation(Kind::Precedes, 3, 2)], None),
         (&[upto, lub], Some(1)),
@@ -476,6 +485,232 @@ fn places_are_told_apart_by_the_word_of_an_implicit_clock() {
     assert_eq!(
         (place(&open), place(&shut)),
         (SamePlace::Same, SamePlace::Different)
+    );
+}
+
+/// In each pair the first record rests on the second.
+type Rests = [(u64, u64)];
+
+/// So many definitions, record i that of clock i, that rest on each other so; the operands that are
+/// left, clocks 30 and 31, have no definition.
+fn resting(count: u64, pairs: &Rests) -> Vec<Record> {
+    let free = |i| definition(Kind::Union, i, 30, 31);
+    let mut records: Vec<Record> = (1..=count).map(free).collect();
+    for &(record, on) in pairs {
+        let record = &mut records[record as usize - 1];
+        match record.first {
+            30 => record.first = on,
+            _ => record.second = on,
+        }
+    }
+    records
+}
+
+fn circle(place: u64) -> Result<Vec<usize>, Refusal> {
+    Err(Refusal { number: 21, place })
+}
+
+#[test]
+fn definitions_are_listed_the_lowest_ready_one_each_time() {
+    let cases: [(u64, &Rests, &[usize]); 9] = [
+        (0, &[], &[]),
+        (3, &[], &[1, 2, 3]),
+        (3, &[(1, 2)], &[2, 1, 3]),
+        (3, &[(1, 3)], &[2, 3, 1]),
+        (3, &[(1, 2), (1, 3)], &[2, 3, 1]),
+        (4, &[(1, 2), (2, 3), (3, 4)], &[4, 3, 2, 1]),
+        (4, &[(1, 4), (3, 1)], &[2, 4, 1, 3]),
+        (4, &[(1, 3), (2, 3), (4, 1), (4, 2)], &[3, 1, 2, 4]),
+        (5, &[(1, 2), (3, 5)], &[2, 1, 4, 5, 3]),
+    ];
+    for (count, pairs, order) in cases {
+        assert_eq!(
+            ccsl::definition_order(&resting(count, pairs), all_named(32)),
+            Ok(order.to_vec()),
+            "{pairs:?}"
+        );
+    }
+}
+
+#[test]
+fn without_an_order_the_lowest_record_on_a_circle_is_named() {
+    let cases: [(u64, &Rests, u64); 7] = [
+        (2, &[(1, 2), (2, 1)], 1),
+        (9, &[(5, 9), (9, 5), (2, 9)], 5),
+        (3, &[(2, 3), (3, 2), (2, 1)], 2),
+        (5, &[(1, 5), (2, 5), (5, 3), (3, 4), (4, 2)], 2),
+        (6, &[(5, 6), (6, 5), (3, 4), (4, 3)], 3),
+        (5, &[(4, 5), (5, 4), (2, 3), (3, 2), (1, 4), (1, 2)], 2),
+        // 1 rests on a circle, and 3 stands between two
+        (
+            7,
+            &[(1, 4), (4, 5), (5, 4), (5, 3), (3, 6), (6, 7), (7, 6)],
+            4,
+        ),
+    ];
+    for (count, pairs, place) in cases {
+        assert_eq!(
+            ccsl::definition_order(&resting(count, pairs), all_named(32)),
+            circle(place),
+            "{pairs:?}"
+        );
+    }
+}
+
+#[test]
+fn relations_and_empty_records_keep_their_numbers_and_are_not_listed() {
+    let records = [
+        relation(Kind::Precedes, 0, 1),
+        definition(Kind::Upto, 2, 3, 1),
+        definition(Kind::Empty, 3, 2, 2),
+        definition(Kind::SubClock, 3, 2, 0),
+        definition(Kind::Glb, 3, 0, 1),
+        relation(Kind::Excludes, 2, 3),
+    ];
+    assert_eq!(
+        ccsl::definition_order(&records, all_named(4)),
+        Ok(vec![5, 2])
+    );
+    assert_eq!(
+        ccsl::definition_order(&records[2..4], all_named(4)),
+        Ok(vec![])
+    );
+}
+
+#[test]
+fn a_definition_waits_for_both_operands_and_an_await_for_one() {
+    let below = definition(Kind::Union, 2, 1, 3);
+    for kind in [
+        Kind::Union,
+        Kind::Inter,
+        Kind::Lub,
+        Kind::Glb,
+        Kind::StrictlySampled,
+        Kind::Sampled,
+        Kind::Upto,
+    ] {
+        for operands in [(1, 2), (2, 1)] {
+            let above = definition(kind, 0, operands.0, operands.1);
+            assert_eq!(
+                ccsl::definition_order(&[above, below], all_named(4)),
+                Ok(vec![2, 1]),
+                "{above:?}"
+            );
+        }
+    }
+    for (first, second, order) in [(2, 1, [2, 1]), (1, 2, [1, 2]), (1, u64::MAX, [1, 2])] {
+        let above = awaits(0, first, second);
+        assert_eq!(
+            ccsl::definition_order(&[above, below], all_named(4)),
+            Ok(order.to_vec()),
+            "{above:?}"
+        );
+    }
+    let back = definition(Kind::Union, 2, 0, 3);
+    let order =
+        |first, second| ccsl::definition_order(&[awaits(0, first, second), back], all_named(4));
+    assert_eq!((order(1, 2), order(2, 1)), (Ok(vec![1, 2]), circle(1)));
+}
+
+#[test]
+fn circles_lead_through_implicit_clocks() {
+    let (named, count) = (3, 4);
+    let records = [
+        definition(Kind::Lub, 3, 0, 1),
+        definition(Kind::Upto, 0, 3, 2),
+    ];
+    assert_eq!(
+        ccsl::definition_order(&records, Clocks { named, count }),
+        circle(1)
+    );
+    let order = |text: &[u8]| {
+        let table = ccsl::read_table(text).unwrap();
+        ccsl::definition_order(&table.records, table.counts())
+    };
+    assert_eq!(
+        order(b"c clockDef (b upto s) lub t\na clockDef b glb u\nb clockDef (a upto v) lub w"),
+        circle(3)
+    );
+    assert_eq!(
+        order(b"(b lub a) precedes d\nb clockDef a upto c"),
+        Ok(vec![3, 1])
+    );
+}
+
+#[test]
+fn as_many_definitions_are_listed_as_there_can_be() {
+    let chain = (0..31).map(|i| awaits(i, i + 1, 0));
+    let relations = vec![relation(Kind::Excludes, 0, 1); 33];
+    let records: Vec<Record> = relations.into_iter().chain(chain).collect();
+    assert_eq!(
+        ccsl::definition_order(&records, all_named(32)),
+        Ok((34..=64).rev().collect())
+    );
+    let round: Vec<Record> = (0..32).map(|i| awaits(i, (i + 1) % 32, 0)).collect();
+    assert_eq!(ccsl::definition_order(&round, all_named(32)), circle(1));
+}
+
+#[test]
+fn records_that_are_not_allowed_come_before_a_circle() {
+    let mut records = resting(2, &[(1, 2), (2, 1)]);
+    let refused = |records: &[Record], named, count, place| {
+        assert_eq!(
+            ccsl::definition_order(records, Clocks { named, count }),
+            Err(Refusal { number: 59, place })
+        );
+    };
+    refused(&records, 33, 32, 0);
+    refused(&records, 33, 33, 0);
+    refused(&records, 31, 31, 1);
+    records.resize(65, relation(Kind::Excludes, 0, 1));
+    refused(&records, 32, 32, 65);
+    records[3].second = 0;
+    refused(&records, 32, 32, 4);
+}
+
+#[test]
+fn an_order_fills_its_list_with_zeros() {
+    let cases: [(Vec<Record>, [u64; 4], [u64; 3]); 3] = [
+        (resting(3, &[(1, 2)]), [0, 0, 0, 3], [2, 1, 3]),
+        (resting(3, &[(1, 2), (2, 1)]), [2, 21, 1, 0], [0; 3]),
+        (vec![relation(Kind::Excludes, 1, 1)], [2, 59, 1, 0], [0; 3]),
+    ];
+    for (records, answer, order) in cases {
+        let (mut a, mut o) = (left(6), left(40));
+        assert_eq!(
+            raw::definition_order(&ccsl::numbers(&records), 32, 32, &mut a, &mut o),
+            raw::DONE
+        );
+        assert_eq!((&a[..4], &a[4..]), (&answer[..], &[LEFT; 2][..]));
+        assert_eq!((&o[..3], &o[3..32]), (&order[..], &[0; 29][..]));
+        assert_eq!(o[32..], [LEFT; 8]);
+    }
+}
+
+#[test]
+fn a_table_with_a_circle_still_runs() {
+    let text = b"a clockDef b clockUnion c\nb clockDef a clockInter d";
+    let table = ccsl::read_table(text).unwrap();
+    assert_eq!(
+        ccsl::definition_order(&table.records, table.counts()),
+        circle(1)
+    );
+    let recording = b"$var event 1 ! a $end $var event 1 % b $end $var event 1 & c $end
+        $var event 1 + d $end $enddefinitions $end #0 1& 1! #2 1+ #5 1! 1% 1+ #7 1%";
+    assert_eq!(
+        ccsl::run(text, recording).to_string(),
+        "violated 1 7\nsteps 3\nconfig 0 0\n"
+    );
+    let [a, b, c, d] = [1 << 0, 1 << 1, 1 << 2, 1 << 3];
+    let mut monitor = Monitor::of_table(&table).unwrap();
+    for ticks in [a | c, d, a | b | d] {
+        assert_eq!(monitor.step(ticks), StepAnswer::Accepted, "{ticks:#b}");
+    }
+    assert_eq!(monitor.step(a | d), StepAnswer::Violated(1));
+    let words = monitor.words();
+    assert_eq!(
+        ccsl::same_place(&table.records, table.counts(), words, words),
+        SamePlace::Same
     );
 }
 
@@ -678,6 +913,33 @@ fn lists_of_a_wrong_shape_for_records_are_told_and_nothing_written() {
         raw::WORDS_SHORT
     );
     assert_eq!(a, left(3));
+}
+
+#[test]
+fn lists_of_a_wrong_shape_for_an_order_are_told_and_nothing_written() {
+    let good = [1, 0, 0, 1, 0, 1];
+    let unknown = [1, 0, 0, 1, 0, 1, 14, 0, 0, 1, 0, 2];
+    let cases: [(&[u64], usize, usize, u32); 8] = [
+        (&good, 3, 32, raw::ANSWER_SHORT),
+        (&unknown[..11], 0, 0, raw::ANSWER_SHORT),
+        (&good[..5], 4, 32, raw::RECORDS_RAGGED),
+        (&unknown[..11], 4, 0, raw::RECORDS_RAGGED),
+        (&unknown, 4, 32, raw::KIND_UNKNOWN),
+        (&unknown, 4, 0, raw::KIND_UNKNOWN),
+        (&good, 4, 31, raw::ORDER_SHORT),
+        (&good, 4, 0, raw::ORDER_SHORT),
+    ];
+    for (records, answer, order, status) in cases {
+        // With 99 clocks good records are refused, and the shape comes first.
+        for clocks in [2, 99] {
+            let (mut a, mut o) = (left(answer), left(order));
+            assert_eq!(
+                raw::definition_order(records, clocks, clocks, &mut a, &mut o),
+                status
+            );
+            assert_eq!((a, o), (left(answer), left(order)));
+        }
+    }
 }
 
 #[test]

@@ -70,6 +70,12 @@ fn place(records: &[u64], answer: usize, first: &[i64], second: &[i64]) -> Calle
     (status, answer)
 }
 
+fn order(records: &[u64], answer: usize, order: usize) -> Called {
+    let (mut answer, mut order) = (vec![0; answer], vec![0; order]);
+    let status = raw::definition_order(records, 2, 2, &mut answer, &mut order);
+    (status, answer)
+}
+
 /// What the library's answers say of each constant, some of them in several ways.
 fn measured() -> Vec<(&'static str, u64)> {
     let mut all = statuses();
@@ -89,11 +95,13 @@ fn statuses() -> Vec<(&'static str, u64)> {
         ("CCSL_DONE", status(start(&one, LONG, LONG))),
         ("CCSL_DONE", status(step(&one, 1, LONG, LONG))),
         ("CCSL_DONE", status(place(&one, LONG, &zeros, &zeros))),
+        ("CCSL_DONE", status(order(&one, LONG, LONG))),
         ("CCSL_ANSWER_SHORT", status(run(RECORDING, 0, LONG))),
         ("CCSL_ANSWER_SHORT", status(read(TABLE, 0, LONG, LONG).0)),
         ("CCSL_ANSWER_SHORT", status(start(&one, 0, LONG))),
         ("CCSL_ANSWER_SHORT", status(step(&one, 1, 0, LONG))),
         ("CCSL_ANSWER_SHORT", status(place(&one, 0, &zeros, &zeros))),
+        ("CCSL_ANSWER_SHORT", status(order(&one, 0, LONG))),
         ("CCSL_WORDS_SHORT", status(run(RECORDING, LONG, 0))),
         ("CCSL_WORDS_SHORT", status(start(&one, LONG, 0))),
         ("CCSL_WORDS_SHORT", status(step(&one, 1, LONG, 0))),
@@ -110,12 +118,15 @@ fn statuses() -> Vec<(&'static str, u64)> {
             "CCSL_RECORDS_RAGGED",
             status(place(&one[..1], LONG, &zeros, &zeros)),
         ),
+        ("CCSL_RECORDS_RAGGED", status(order(&one[..1], LONG, LONG))),
         ("CCSL_KIND_UNKNOWN", status(start(&unknown, LONG, LONG))),
         ("CCSL_KIND_UNKNOWN", status(step(&unknown, 1, LONG, LONG))),
         (
             "CCSL_KIND_UNKNOWN",
             status(place(&unknown, LONG, &zeros, &zeros)),
         ),
+        ("CCSL_KIND_UNKNOWN", status(order(&unknown, LONG, LONG))),
+        ("CCSL_ORDER_SHORT", status(order(&one, LONG, 0))),
     ]
 }
 
@@ -134,6 +145,7 @@ fn outcomes() -> Vec<(&'static str, u64)> {
         ("CCSL_ACCEPTED", first(start(&one, LONG, LONG))),
         ("CCSL_ACCEPTED", first(step(&one, 0b01, LONG, LONG))),
         ("CCSL_ACCEPTED", first(place(&one, LONG, &zero, &zero))),
+        ("CCSL_ACCEPTED", first(order(&one, LONG, LONG))),
         ("CCSL_VIOLATED", first(run(&late, LONG, LONG))),
         ("CCSL_VIOLATED", first(step(&one, 0b10, LONG, LONG))),
         ("CCSL_VIOLATED", first(place(&one, LONG, &zero, &ahead))),
@@ -142,6 +154,7 @@ fn outcomes() -> Vec<(&'static str, u64)> {
         ("CCSL_REFUSED", first(start(&twice, LONG, LONG))),
         ("CCSL_REFUSED", first(step(&one, 0b100, LONG, LONG))),
         ("CCSL_REFUSED", first(place(&one, LONG, &zero, &below))),
+        ("CCSL_REFUSED", first(order(&twice, LONG, LONG))),
     ]
 }
 
@@ -172,6 +185,7 @@ fn sizes() -> Vec<(&'static str, u64)> {
         ("CCSL_RECORD", record),
         ("CCSL_RECORDS", records / record),
         ("CCSL_CLOCKS", names / 2),
+        ("CCSL_CLOCKS", least(|n| order(&one, LONG, n))),
         ("CCSL_RUN_ANSWER", least(|n| run(RECORDING, n, LONG))),
         ("CCSL_READ_ANSWER", least(|n| read(TABLE, n, LONG, LONG).0)),
         ("CCSL_START_ANSWER", least(|n| start(&one, n, LONG))),
@@ -180,6 +194,7 @@ fn sizes() -> Vec<(&'static str, u64)> {
             "CCSL_PLACE_ANSWER",
             least(|n| place(&one, n, &zeros, &zeros)),
         ),
+        ("CCSL_ORDER_ANSWER", least(|n| order(&one, n, LONG))),
     ];
     sizes.map(|(name, size)| (name, size as u64)).to_vec()
 }
@@ -443,6 +458,7 @@ fn the_header_is_read() {
     let constants = constants(&header);
     for (name, value) in [
         ("CCSL_RECORDS_RAGGED", 5),
+        ("CCSL_ORDER_SHORT", 7),
         ("CCSL_REFUSED", 2),
         ("CCSL_CLOCKS", 32),
         ("CCSL_UPTO", 13),
@@ -535,6 +551,10 @@ fn other_prototypes_are_told() {
         ),
         ("uint32_t ccsl_step(", "uint64_t ccsl_step("),
         ("ccsl_same_place(const", "ccsl_place(const"),
+        (
+            "uint64_t *order, size_t order_len",
+            "uint32_t *order, size_t order_len",
+        ),
     ];
     for (old, new) in wrong {
         assert_eq!(

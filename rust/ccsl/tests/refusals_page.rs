@@ -1,23 +1,24 @@
 //! The page of refusals for trainees, `docs/refusals.md`: each number has its heading, each block
 //! on it the answer that it states, and each number of a run its folder in `examples/refusals`.
 //!
-//! A block is fenced with ```` ```step ```` or ```` ```same-place ````, one item a line:
+//! A block is fenced with ```` ```step ````, ```` ```same-place ```` or ```` ```order ````, one item a
+//! line:
 //!
 //! - `clocks 3`, and `named 2` where not all of them are named
 //! - `record precedes c=0 a=0 b=1 n=0`
 //! - `words 1 0`, or `first 1 0` and `second 1 0`
 //! - `ticks 0 1`
-//! - `answer accepted`, `violated 1`, `same`, `different` or `refused 51 1`
+//! - `answer accepted`, `violated 1`, `same`, `different`, `listed 2 1` or `refused 51 1`
 
-use ccsl::{Clocks, Configuration, Kind, Record, Refusal, SamePlace, StepAnswer, KINDS, WORDS};
+use ccsl::{Clocks, Configuration, Kind, Record, SamePlace, StepAnswer, KINDS, WORDS};
 use std::fs;
 use std::path::{Path, PathBuf};
 
-/// The numbers of a run, and those of a single step and the same-place question.
+/// The numbers of a run, and those of the calls on records.
 const OF_A_RUN: [u64; 24] = [
     10, 11, 12, 13, 14, 15, 16, 17, 18, 19, 20, 30, 31, 32, 33, 34, 35, 36, 37, 40, 41, 42, 43, 44,
 ];
-const OF_A_CALL: [u64; 4] = [51, 59, 60, 61];
+const OF_A_CALL: [u64; 5] = [21, 51, 59, 60, 61];
 
 /// The words for the kinds, in the order of [`KINDS`].
 const WORDS_OF_KINDS: [&str; 14] = [
@@ -37,9 +38,17 @@ const WORDS_OF_KINDS: [&str; 14] = [
     "upto",
 ];
 
+/// The call that a block asks.
+#[derive(Clone, Copy, Debug, PartialEq)]
+enum Asked {
+    Step,
+    SamePlace,
+    Order,
+}
+
 /// A block of the page.
 struct Block {
-    same_place: bool,
+    asked: Asked,
     records: Vec<Record>,
     clocks: Clocks,
     /// Of `words` or `first`, and of `second`.
@@ -62,22 +71,25 @@ fn blocks(page: &str) -> Vec<(usize, Block)> {
     let mut lines = page.lines().enumerate();
     let mut found = Vec::new();
     while let Some((number, line)) = lines.next() {
-        let same_place = line.trim() == "```same-place";
-        if same_place || line.trim() == "```step" {
-            let items: Vec<&str> = lines
-                .by_ref()
-                .map(|(_, line)| line.trim())
-                .take_while(|line| *line != "```")
-                .collect();
-            found.push((number + 1, block(same_place, &items, number + 1)));
-        }
+        let asked = match line.trim() {
+            "```step" => Asked::Step,
+            "```same-place" => Asked::SamePlace,
+            "```order" => Asked::Order,
+            _ => continue,
+        };
+        let items: Vec<&str> = lines
+            .by_ref()
+            .map(|(_, line)| line.trim())
+            .take_while(|line| *line != "```")
+            .collect();
+        found.push((number + 1, block(asked, &items, number + 1)));
     }
     found
 }
 
-fn block(same_place: bool, items: &[&str], at: usize) -> Block {
+fn block(asked: Asked, items: &[&str], at: usize) -> Block {
     let mut block = Block {
-        same_place,
+        asked,
         records: Vec::new(),
         clocks: Clocks::all_named(0),
         configurations: [[0; WORDS]; 2],
@@ -149,17 +161,18 @@ fn record(words: &str, at: usize) -> Record {
     record
 }
 
-/// What the library answers, in the words of the page; a step that is not accepted must leave the
-/// configuration alone.
+/// What the library answers, in the words of the page.
 fn answer(block: &Block) -> String {
-    let [first, second] = block.configurations;
-    if block.same_place {
-        return match ccsl::same_place(&block.records, block.clocks, &first, &second) {
-            SamePlace::Same => "same".to_string(),
-            SamePlace::Different => "different".to_string(),
-            SamePlace::Refused(refusal) => refused(refusal),
-        };
+    match block.asked {
+        Asked::Step => step(block),
+        Asked::SamePlace => same_place(block),
+        Asked::Order => order(block),
     }
+}
+
+/// A step that is not accepted must leave the configuration alone.
+fn step(block: &Block) -> String {
+    let first = block.configurations[0];
     let mut words = first;
     let answer = ccsl::step(&block.records, block.clocks, &mut words, block.ticks);
     assert!(
@@ -169,12 +182,26 @@ fn answer(block: &Block) -> String {
     match answer {
         StepAnswer::Accepted => "accepted".to_string(),
         StepAnswer::Violated(record) => format!("violated {record}"),
-        StepAnswer::Refused(refusal) => refused(refusal),
+        StepAnswer::Refused(refusal) => refusal.to_string(),
     }
 }
 
-fn refused(Refusal { number, place }: Refusal) -> String {
-    format!("refused {number} {place}")
+fn same_place(block: &Block) -> String {
+    let [first, second] = block.configurations;
+    match ccsl::same_place(&block.records, block.clocks, &first, &second) {
+        SamePlace::Same => "same".to_string(),
+        SamePlace::Different => "different".to_string(),
+        SamePlace::Refused(refusal) => refusal.to_string(),
+    }
+}
+
+fn order(block: &Block) -> String {
+    match ccsl::definition_order(&block.records, block.clocks) {
+        Ok(order) => order.iter().fold("listed".to_string(), |text, number| {
+            format!("{text} {number}")
+        }),
+        Err(refusal) => refusal.to_string(),
+    }
 }
 
 #[test]
@@ -236,16 +263,20 @@ fn every_number_of_a_run_has_a_folder() {
 fn blocks_are_read() {
     let page = "text\n```step\nclocks 3\nrecord await c=2 a=1 n=2\nrecord upto c=0 a=1 b=2\n\
         words 2 1\nticks 0 1\nanswer  refused 51  1\n```\n\
-        ```same-place\nnamed 1\nclocks 2\nfirst -1\nsecond 1\n```\n";
+        ```same-place\nnamed 1\nclocks 2\nfirst -1\nsecond 1\n```\n```order\n```\n";
     let blocks = blocks(page);
     assert_eq!(
         blocks.iter().map(|(at, _)| *at).collect::<Vec<_>>(),
-        [2, 10]
+        [2, 10, 16]
     );
     let (one, two) = (&blocks[0].1, &blocks[1].1);
     assert_eq!(
-        (one.same_place, one.clocks, one.ticks, one.answer.as_str()),
-        (false, Clocks::all_named(3), 0b011, "refused 51 1")
+        blocks.iter().map(|(_, b)| b.asked).collect::<Vec<_>>(),
+        [Asked::Step, Asked::SamePlace, Asked::Order]
+    );
+    assert_eq!(
+        (one.clocks, one.ticks, one.answer.as_str()),
+        (Clocks::all_named(3), 0b011, "refused 51 1")
     );
     assert_eq!(
         one.records[0],
@@ -261,11 +292,7 @@ fn blocks_are_read() {
     assert_eq!(one.configurations[0][..3], [2, 1, 0]);
     assert_eq!((two.clocks.named, two.clocks.count), (1, 2));
     assert_eq!(
-        (
-            two.same_place,
-            two.configurations[0][0],
-            two.configurations[1][0]
-        ),
-        (true, -1, 1)
+        (two.configurations[0][0], two.configurations[1][0]),
+        (-1, 1)
     );
 }

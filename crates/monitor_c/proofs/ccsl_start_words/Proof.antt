@@ -41,7 +41,7 @@ returns-5 c =
     let ws = s .words .now in
     let ns = s .records .now in
     ap (λ a. left done a (words .last .0)) (put .put-answer .ensures)
-    ∙ ap (λ v. left done (written (answerAnd v []) out) (words .last .0)) (numbers .check-numbers .ensures .1)
+    ∙ ap (λ v. left done (written (answerAnd v []) out) (words .last .0)) (numbers .check-numbers .ensures .1 .0)
     ∙ ap (λ w. left done (written (answerAnd (ofStart (startSaid (q .outcome))) []) out) w) (words .ensures)
     ∙ ap (λ t. startLeft t out ws) (started .start-on .ensures)
     ∙ ap (λ rs. startLeft (startOf (clocks .clocks-of .result) (lent (length ns / 6) rs)) out ws) (records .records-of .ensures)

@@ -1,0 +1,17 @@
+pub mod Behind
+pub mod BitLaws
+pub mod Carried
+pub mod Chains
+pub mod Closing
+pub mod DefinitionLaws
+pub mod Few
+pub mod GatherLaws
+pub mod Gathered
+pub mod LowestLaws
+pub mod Orders
+pub mod RowLaws
+pub mod Standing
+pub mod TurnLaws
+pub mod Turns
+pub mod Walk
+pub mod Working
