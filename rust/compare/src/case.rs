@@ -1,7 +1,9 @@
 //! One question to a monitor, and the answer to it.
 
 use ccsl::Clocks;
-use second_opinion::{Configuration, Record, Refusal, Report, SamePlace, StepAnswer, Verdict};
+use second_opinion::{
+    Configuration, Record, Refusal, Report, SamePlace, StepAnswer, Table, Verdict,
+};
 use std::fmt;
 use std::ops::Range;
 
@@ -40,6 +42,57 @@ pub enum Case {
         second: Configuration,
         depth: usize,
     },
+    /// The definition records in working order.
+    Order {
+        records: Vec<Record>,
+        clocks: Clocks,
+    },
+}
+
+impl Case {
+    /// The records and the clocks of a question on records.
+    pub fn on_records(&self) -> Option<(&[Record], Clocks)> {
+        match self {
+            Case::Start { records, clocks }
+            | Case::Step {
+                records, clocks, ..
+            }
+            | Case::Place {
+                records, clocks, ..
+            }
+            | Case::Search {
+                records, clocks, ..
+            }
+            | Case::Order { records, clocks } => Some((records, *clocks)),
+            Case::Run { .. } | Case::Read { .. } => None,
+        }
+    }
+
+    /// The question for the working order of the records, or of the table, that another question is
+    /// about.
+    pub fn order(&self) -> Option<Case> {
+        let (records, clocks) = match self {
+            Case::Order { .. } => return None,
+            Case::Read { text } => {
+                let table = second_opinion::read_table(text).ok()?;
+                let clocks = table_clocks(&table);
+                (table.records, clocks)
+            }
+            _ => {
+                let (records, clocks) = self.on_records()?;
+                (records.to_vec(), clocks)
+            }
+        };
+        Some(Case::Order { records, clocks })
+    }
+}
+
+/// The clocks of a table that was read.
+pub fn table_clocks(table: &Table) -> Clocks {
+    Clocks {
+        named: table.named as u32,
+        count: table.clocks as u32,
+    }
 }
 
 /// Every part of an answer.
@@ -51,6 +104,7 @@ pub enum Answer {
     /// The answer and the configuration after the call.
     Step(StepAnswer, Configuration),
     Place(SamePlace),
+    Order(Result<Vec<usize>, Refusal>),
     /// The monitor broke off, with this message.
     Panicked(String),
 }
@@ -76,7 +130,8 @@ impl Answer {
             | Answer::Read(Err(refusal))
             | Answer::Start(Err(refusal))
             | Answer::Step(StepAnswer::Refused(refusal), _)
-            | Answer::Place(SamePlace::Refused(refusal)) => Some(*refusal),
+            | Answer::Place(SamePlace::Refused(refusal))
+            | Answer::Order(Err(refusal)) => Some(*refusal),
             _ => None,
         }
     }
@@ -128,6 +183,11 @@ impl fmt::Display for Case {
                 write_records(f, records)?;
                 write_words(f, "first", first)?;
                 write_words(f, "second", second)
+            }
+            Case::Order { records, clocks } => {
+                writeln!(f, "definition_order")?;
+                write_clocks(f, clocks)?;
+                write_records(f, records)
             }
         }
     }

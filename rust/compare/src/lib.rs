@@ -1,8 +1,9 @@
 //! Randomised comparison of two monitors: the proved library, and one that was written separately
 //! from documents 01 and 02.
 //!
-//! A pair is one question asked of both, with every part of both answers compared. Pair `n` of a
-//! seed is always the same question.
+//! A pair is one question asked of both, with every part of both answers compared; where it is about
+//! records or a table that is read, their working order is asked, too. Pair `n` of a seed is always
+//! the same question.
 
 pub mod case;
 pub mod generate;
@@ -70,11 +71,16 @@ fn compare_by(
     let mut tally = Tally::default();
     for pair in pairs {
         let (group, case) = question(&mut Random::of_pair(seed, pair));
-        let answer = ask(one, &case);
-        if answer != ask(other, &case) {
-            return Err(Box::new(mismatch(seed, pair, group, &case, one, other)));
+        let mut next = Some(case);
+        while let Some(case) = next {
+            let answer = ask(one, &case);
+            if answer != ask(other, &case) {
+                return Err(Box::new(mismatch(seed, pair, group, &case, one, other)));
+            }
+            tally.count(&case, &answer);
+            next = case.order();
         }
-        tally.count(group, &case, &answer);
+        tally.count_pair(group);
         progress(&tally);
     }
     Ok(tally)

@@ -1,6 +1,6 @@
 //! The two monitors, asked the same questions and answering in the same words.
 
-use crate::case::{Answer, Case, Read};
+use crate::case::{table_clocks, Answer, Case, Read};
 use ccsl::Clocks;
 use second_opinion::{
     Configuration, Kind, Record, Refusal, Report, SamePlace, StepAnswer, Verdict,
@@ -80,6 +80,9 @@ pub fn library(case: &Case) -> Answer {
             first,
             second,
         ))),
+        Case::Order { records, clocks } => {
+            Answer::Order(ccsl::definition_order(&to_library(records), *clocks).map_err(refusal))
+        }
     }
 }
 
@@ -123,6 +126,10 @@ pub fn second(case: &Case) -> Answer {
             second,
             depth,
         } => Answer::Place(by_search(records, *clocks, first, second, *depth)),
+        Case::Order { records, clocks } => {
+            let (named, count) = counts(*clocks);
+            Answer::Order(second_opinion::definition_order(records, named, count))
+        }
     }
 }
 
@@ -162,12 +169,9 @@ fn second_read(text: &[u8], table: second_opinion::Table) -> Read {
     };
     Read {
         start: second_opinion::start_words(&table.records, table.named, table.clocks),
+        counts: table_clocks(&table),
         records: table.records.into_iter().map(named).collect(),
         clocks: table.names.into_iter().map(place).collect(),
-        counts: Clocks {
-            named: table.named as u32,
-            count: table.clocks as u32,
-        },
     }
 }
 
@@ -212,6 +216,15 @@ pub fn defines(kind: Kind) -> bool {
         kind,
         Union | Inter | Lub | Glb | Await | StrictlySampled | Sampled | Upto
     )
+}
+
+/// The clocks that a record uses.
+pub fn operands(record: &Record) -> Vec<u64> {
+    match record.kind {
+        Kind::Empty => Vec::new(),
+        Kind::Await => vec![record.first],
+        _ => vec![record.first, record.second],
+    }
 }
 
 /// All kinds, in the order in which [`ccsl::KINDS`] has them.

@@ -2,7 +2,7 @@
 //! and numbers made 0, greedily.
 
 use crate::case::Case;
-use crate::monitors::defines;
+use crate::monitors::{defines, operands};
 use ccsl::Clocks;
 use second_opinion::{Configuration, Kind, Record, WORDS};
 use std::cell::Cell;
@@ -200,10 +200,11 @@ fn starts_of_commands(text: &[u8], at: usize) -> bool {
 /// A record with its words in the first and the second configuration.
 type Row = (Record, i64, i64);
 
-/// The configurations of a case; a single step has the same one twice, start words ask of none.
+/// The configurations of a case; a single step has the same one twice, start words and orders ask of
+/// none.
 fn configurations(case: &Case) -> (&Configuration, &Configuration) {
     match case {
-        Case::Start { .. } => (&[0; WORDS], &[0; WORDS]),
+        Case::Start { .. } | Case::Order { .. } => (&[0; WORDS], &[0; WORDS]),
         Case::Step { words, .. } => (words, words),
         Case::Place { first, second, .. } | Case::Search { first, second, .. } => (first, second),
         Case::Run { .. } | Case::Read { .. } => unreachable!("texts have no configuration"),
@@ -211,13 +212,7 @@ fn configurations(case: &Case) -> (&Configuration, &Configuration) {
 }
 
 fn records(case: &Case) -> &[Record] {
-    match case {
-        Case::Start { records, .. }
-        | Case::Step { records, .. }
-        | Case::Place { records, .. }
-        | Case::Search { records, .. } => records,
-        Case::Run { .. } | Case::Read { .. } => &[],
-    }
+    case.on_records().map_or(&[], |(records, _)| records)
 }
 
 fn rows(case: &Case) -> Vec<Row> {
@@ -245,7 +240,9 @@ fn with_rows(case: &Case, rows: &[Row]) -> Case {
     };
     let mut case = case.clone();
     match &mut case {
-        Case::Start { records, .. } => *records = rows.iter().map(|row| row.0).collect(),
+        Case::Start { records, .. } | Case::Order { records, .. } => {
+            *records = rows.iter().map(|row| row.0).collect();
+        }
         Case::Step { records, words, .. } => {
             *words = moved(words, |row| row.1);
             *records = rows.iter().map(|row| row.0).collect();
@@ -271,7 +268,7 @@ fn with_rows(case: &Case, rows: &[Row]) -> Case {
     case
 }
 
-/// The case with numbers made 0 or less, one after another.
+/// The case with definitions taken out and numbers made 0 or less, one after another.
 fn simpler(mut case: Case, differs: Differs) -> Case {
     while let Some(next) = simplifications(&case)
         .into_iter()
@@ -282,9 +279,9 @@ fn simpler(mut case: Case, differs: Differs) -> Case {
     case
 }
 
-/// All cases that have one number less.
+/// All cases that have one definition or one number less.
 fn simplifications(case: &Case) -> Vec<Case> {
-    let mut found = Vec::new();
+    let mut found = without_definition(case);
     for place in 0..records(case).len() {
         for field in 0..5 {
             let mut rows = rows(case);
@@ -305,7 +302,28 @@ fn simplifications(case: &Case) -> Vec<Case> {
             found.extend(zeroed(first).map(|words| with_place(case, words, *second)));
             found.extend(zeroed(second).map(|words| with_place(case, *first, words)));
         }
-        Case::Start { .. } | Case::Run { .. } | Case::Read { .. } => {}
+        Case::Start { .. } | Case::Order { .. } | Case::Run { .. } | Case::Read { .. } => {}
+    }
+    found
+}
+
+/// The cases without one of the definitions, with one of its operands for the clock that it defines:
+/// of a circle that leaves a shorter one.
+fn without_definition(case: &Case) -> Vec<Case> {
+    let mut found = Vec::new();
+    for (place, record) in records(case).iter().enumerate() {
+        if !defines(record.kind) {
+            continue;
+        }
+        for operand in operands(record) {
+            let mut rows = rows(case);
+            rows.remove(place);
+            rows.iter_mut()
+                .flat_map(|row| clocks_of(&mut row.0))
+                .filter(|clock| **clock == record.defined)
+                .for_each(|clock| *clock = operand);
+            found.push(with_rows(case, &rows));
+        }
     }
     found
 }
@@ -322,13 +340,7 @@ fn field_of(record: &mut Record, field: usize) -> &mut u64 {
 
 /// The counts of a case on records.
 fn clocks(case: &Case) -> Option<Clocks> {
-    match case {
-        Case::Start { clocks, .. }
-        | Case::Step { clocks, .. }
-        | Case::Place { clocks, .. }
-        | Case::Search { clocks, .. } => Some(*clocks),
-        Case::Run { .. } | Case::Read { .. } => None,
-    }
+    case.on_records().map(|(_, clocks)| clocks)
 }
 
 fn with_clocks(case: &Case, new: Clocks) -> Case {
@@ -337,7 +349,8 @@ fn with_clocks(case: &Case, new: Clocks) -> Case {
         Case::Start { clocks, .. }
         | Case::Step { clocks, .. }
         | Case::Place { clocks, .. }
-        | Case::Search { clocks, .. } => *clocks = new,
+        | Case::Search { clocks, .. }
+        | Case::Order { clocks, .. } => *clocks = new,
         Case::Run { .. } | Case::Read { .. } => {}
     }
     case
@@ -508,6 +521,34 @@ mod tests {
         );
         let found = smallest(&long, &asked);
         assert!(found == short, "{found}");
+    }
+
+    #[test]
+    fn a_circle_shrinks_to_two_records() {
+        let definition = |kind, defined, first, second| Record {
+            kind,
+            defined,
+            first,
+            second,
+            number: 1,
+            line: 0,
+        };
+        let mut circle: Vec<Record> = (0..9)
+            .map(|clock| definition(Kind::Upto, clock, 20, clock + 1))
+            .collect();
+        circle.push(definition(Kind::Await, 9, 0, 0));
+        let case = Case::Order {
+            records: circle,
+            clocks: Clocks::all_named(32),
+        };
+        let has_circle = |case: &Case| {
+            let (records, clocks) = case.on_records().expect("a question on records");
+            let (named, count) = (clocks.named.into(), clocks.count.into());
+            let order = second_opinion::definition_order(records, named, count);
+            order.is_err_and(|refusal| refusal.number == 21)
+        };
+        let found = smallest(&case, &has_circle);
+        assert_eq!(records(&found).len(), 2, "{found}");
     }
 
     #[test]

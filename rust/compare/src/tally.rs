@@ -7,9 +7,9 @@ use std::collections::BTreeMap;
 use std::fmt;
 
 /// Every refusal number of documents 01 and 02, as far as its requests were carried out.
-pub const REFUSALS: [u64; 28] = [
-    10, 11, 12, 13, 14, 15, 16, 17, 18, 19, 20, 30, 31, 32, 33, 34, 35, 36, 37, 40, 41, 42, 43, 44,
-    51, 59, 60, 61,
+pub const REFUSALS: [u64; 29] = [
+    10, 11, 12, 13, 14, 15, 16, 17, 18, 19, 20, 21, 30, 31, 32, 33, 34, 35, 36, 37, 40, 41, 42, 43,
+    44, 51, 59, 60, 61,
 ];
 
 /// Counts of what came up.
@@ -24,6 +24,8 @@ pub struct Tally {
     steps: u64,
     /// Accepted steps of the longest run that was accepted whole.
     longest: u64,
+    /// Working orders that are not the order of the records.
+    moved: u64,
     nested: Nested,
 }
 
@@ -63,22 +65,30 @@ impl Nested {
 }
 
 impl Tally {
-    /// Counts a pair of equal answers.
-    pub fn count(&mut self, group: Group, case: &Case, answer: &Answer) {
+    /// Counts a pair.
+    pub fn count_pair(&mut self, group: Group) {
         self.groups[GROUPS
             .iter()
             .position(|(_, other)| *other == group)
             .expect("every group is listed")] += 1;
+    }
+
+    /// Counts a question on which both gave the same answer.
+    pub fn count(&mut self, case: &Case, answer: &Answer) {
         *self.answers.entry(words_for(answer)).or_default() += 1;
         if let Some(refusal) = answer.refusal() {
             *self.refusals.entry(refusal.number).or_default() += 1;
         }
         self.nested.count(case, answer);
-        if let Answer::Run(report) = answer {
-            self.steps += report.steps;
-            if report.verdict == Verdict::Accepted {
-                self.longest = self.longest.max(report.steps);
+        match answer {
+            Answer::Run(report) => {
+                self.steps += report.steps;
+                if report.verdict == Verdict::Accepted {
+                    self.longest = self.longest.max(report.steps);
+                }
             }
+            Answer::Order(Ok(order)) if !order.is_sorted() => self.moved += 1,
+            _ => {}
         }
     }
 
@@ -90,6 +100,16 @@ impl Tally {
     /// How often an answer came up; the words are those that are printed.
     pub fn answers(&self, words: &str) -> u64 {
         self.answers.get(words).copied().unwrap_or(0)
+    }
+
+    /// How often a refusal number came up.
+    pub fn refusals(&self, number: u64) -> u64 {
+        self.refusals.get(&number).copied().unwrap_or(0)
+    }
+
+    /// Working orders that are not the order of the records.
+    pub fn moved(&self) -> u64 {
+        self.moved
     }
 
     /// Accepted steps of the longest run that was accepted whole.
@@ -107,7 +127,7 @@ impl Tally {
         REFUSALS
             .iter()
             .copied()
-            .filter(|number| !self.refusals.contains_key(number))
+            .filter(|number| self.refusals(*number) == 0)
             .collect()
     }
 }
@@ -129,6 +149,8 @@ fn words_for(answer: &Answer) -> &'static str {
         Answer::Place(SamePlace::Same) => "places the same",
         Answer::Place(SamePlace::Different) => "places different",
         Answer::Place(SamePlace::Refused(_)) => "places refused",
+        Answer::Order(Ok(_)) => "order listed",
+        Answer::Order(Err(_)) => "order refused",
         Answer::Panicked(_) => "both broke off",
     }
 }
@@ -143,11 +165,13 @@ impl fmt::Display for Tally {
         for (words, count) in &self.answers {
             writeln!(f, "  {words:<20} {count:>9}")?;
         }
-        writeln!(
-            f,
-            "  {:<20} {:>9}\n  {:<20} {:>9}",
-            "steps of runs", self.steps, "longest accepted run", self.longest
-        )?;
+        for (words, count) in [
+            ("steps of runs", self.steps),
+            ("longest accepted run", self.longest),
+            ("not in record order", self.moved),
+        ] {
+            writeln!(f, "  {words:<20} {count:>9}")?;
+        }
         writeln!(f, "with implicit clocks:")?;
         for (words, count) in [
             ("tables read", self.nested.tables),
@@ -159,11 +183,7 @@ impl fmt::Display for Tally {
         }
         writeln!(f, "refusals:")?;
         for number in REFUSALS {
-            writeln!(
-                f,
-                "  {number:<20} {:>9}",
-                self.refusals.get(&number).copied().unwrap_or(0)
-            )?;
+            writeln!(f, "  {number:<20} {:>9}", self.refusals(number))?;
         }
         Ok(())
     }

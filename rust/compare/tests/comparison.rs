@@ -32,6 +32,8 @@ fn mixed_questions_agree_and_meet_every_refusal_number() {
         "places the same",
         "places different",
         "places refused",
+        "order listed",
+        "order refused",
     ];
     for words in answers {
         assert!(
@@ -123,6 +125,35 @@ fn places_agree_with_a_search_of_all_continuations() {
         places.answers("places the same") >= 100 && places.answers("places different") >= 100,
         "{places}"
     );
+}
+
+#[test]
+fn working_orders_agree() {
+    let orders = agree(15, 3000, Group::Order);
+    assert!(
+        orders.answers("order listed") >= 800 && orders.moved() >= 500,
+        "{orders}"
+    );
+    assert!(
+        orders.refusals(21) >= 800 && orders.refusals(59) >= 300,
+        "{orders}"
+    );
+}
+
+#[test]
+fn the_order_of_every_question_on_records_is_asked() {
+    for group in [
+        Group::Start,
+        Group::Step,
+        Group::SamePlace,
+        Group::SamePlaceBySearch,
+        Group::Table,
+    ] {
+        let tally = agree(16, 500, group);
+        let orders = tally.answers("order listed") + tally.answers("order refused");
+        assert_eq!((tally.pairs(), orders), (500, 500), "{tally}");
+        assert!(tally.moved() >= 5 && tally.refusals(21) >= 20, "{tally}");
+    }
 }
 
 #[test]

@@ -5,9 +5,9 @@ use compare::case::{Answer, Case, Read};
 use compare::compare;
 use compare::generate::tables::FORM_WORDS;
 use compare::generate::ticks::all;
-use compare::monitors::{defines, library, second};
+use compare::monitors::{defines, library, operands, second};
 use compare::Mismatch;
-use second_opinion::{judge, read_table, Kind, Record, StepAnswer};
+use second_opinion::{judge, read_table, Kind, Record, Refusal, StepAnswer};
 
 /// A monitor that reads `glb` as `lub`.
 fn glb_is_lub(case: &Case) -> Answer {
@@ -264,6 +264,153 @@ fn fifteen_of_32_names(case: &Case) -> Answer {
     answer
 }
 
+/// The numbers, from 1, of the records that define an operand of one of these.
+fn below(records: &[Record], numbers: &[usize]) -> Vec<usize> {
+    let used = numbers.iter().map(|number| &records[number - 1]);
+    let used: Vec<u64> = used.flat_map(operands).collect();
+    definitions(records)
+        .filter(|number| used.contains(&records[number - 1].defined))
+        .collect()
+}
+
+/// The numbers of the definitions.
+fn definitions(records: &[Record]) -> impl Iterator<Item = usize> + '_ {
+    (1..=records.len()).filter(|number| defines(records[number - 1].kind))
+}
+
+/// The definitions that can be listed: each time those that `take` takes of the ready ones.
+fn listed(records: &[Record], take: fn(Vec<usize>) -> Vec<usize>) -> Vec<usize> {
+    let mut list = Vec::new();
+    loop {
+        let waits = |number: &usize| !list.contains(number);
+        let is_ready = |number: &usize| !below(records, &[*number]).iter().any(waits);
+        let ready = definitions(records).filter(waits).filter(is_ready);
+        let next = take(ready.collect());
+        if next.is_empty() {
+            return list;
+        }
+        list.extend(next);
+    }
+}
+
+/// The definitions that can't be listed.
+fn unlisted(records: &[Record]) -> Vec<usize> {
+    let list = listed(records, |ready| ready);
+    definitions(records)
+        .filter(|number| !list.contains(number))
+        .collect()
+}
+
+/// A monitor that gives another list than the second one.
+fn other_list(case: &Case, list: fn(&[Record], Vec<usize>) -> Vec<usize>) -> Answer {
+    match (case, second(case)) {
+        (Case::Order { records, .. }, Answer::Order(Ok(order))) => {
+            Answer::Order(Ok(list(records, order)))
+        }
+        (_, answer) => answer,
+    }
+}
+
+/// A monitor that lists the definitions in the order of the records.
+fn in_record_order(case: &Case) -> Answer {
+    other_list(case, |_, mut order| {
+        order.sort();
+        order
+    })
+}
+
+/// A monitor that takes the highest ready record each time.
+fn highest_first(case: &Case) -> Answer {
+    other_list(case, |records, _| {
+        listed(records, |ready| ready.into_iter().rev().take(1).collect())
+    })
+}
+
+/// A monitor that takes all ready records before it looks again.
+fn in_rounds(case: &Case) -> Answer {
+    other_list(case, |records, _| listed(records, |ready| ready))
+}
+
+/// A monitor that numbers the definitions among themselves.
+fn definitions_numbered(case: &Case) -> Answer {
+    other_list(case, |records, order| {
+        let up_to = |last: usize| definitions(records).filter(|n| *n <= last).count();
+        order.into_iter().map(up_to).collect()
+    })
+}
+
+/// A monitor for which an await rests on its b, too.
+fn await_of_two(case: &Case) -> Answer {
+    let mut two = case.clone();
+    if let Case::Order { records, .. } = &mut two {
+        for record in records {
+            if record.kind == Kind::Await {
+                record.kind = Kind::Union;
+            }
+        }
+    }
+    let (answer, wrong) = (second(case), second(&two));
+    let is_59 = |answer: &Answer| answer.refusal().is_some_and(|refusal| refusal.number == 59);
+    if is_59(&answer) || is_59(&wrong) {
+        answer
+    } else {
+        wrong
+    }
+}
+
+/// A monitor that gives another answer than 21.
+fn other_than_21(case: &Case, other: fn(&[Record]) -> Result<Vec<usize>, usize>) -> Answer {
+    match (case, second(case)) {
+        (Case::Order { records, .. }, Answer::Order(Err(refusal))) if refusal.number == 21 => {
+            Answer::Order(other(records).map_err(|place| Refusal {
+                place: place as u64,
+                ..refusal
+            }))
+        }
+        (_, answer) => answer,
+    }
+}
+
+/// A monitor that never gives 21, and lists what can be listed.
+fn no_circles(case: &Case) -> Answer {
+    other_than_21(case, |records| {
+        Ok(listed(records, |ready| ready.into_iter().take(1).collect()))
+    })
+}
+
+/// A monitor that has 21 at the first record that can't be listed.
+fn first_unlisted(case: &Case) -> Answer {
+    other_than_21(case, |records| Err(unlisted(records)[0]))
+}
+
+/// A monitor that has 21 also at a record between two circles.
+fn between_circles(case: &Case) -> Answer {
+    other_than_21(case, |records| {
+        let mut left = unlisted(records);
+        for _ in 0..left.len() {
+            let used = below(records, &left);
+            left.retain(|number| used.contains(number));
+        }
+        Err(left[0])
+    })
+}
+
+/// A monitor that gives the 21 of the records above the one that 59 is about.
+fn circle_before_59(case: &Case) -> Answer {
+    let answer = second(case);
+    let mut above = case.clone();
+    if let (Case::Order { records, .. }, Some(refusal)) = (&mut above, answer.refusal()) {
+        if refusal.number == 59 && refusal.place > 0 {
+            records.truncate(refusal.place as usize - 1);
+            let earlier = second(&above);
+            if earlier.refusal().is_some() {
+                return earlier;
+            }
+        }
+    }
+    answer
+}
+
 /// What is found when a wrong monitor is compared with the library.
 fn found(wrong: fn(&Case) -> Answer) -> Mismatch {
     *compare(21, 0..20_000, &library, &wrong, &mut |_| {})
@@ -408,6 +555,41 @@ fn a_name_that_stands_twice_is_found_with_33_names_or_34() {
         panic!("{mismatch}")
     };
     assert!((33..=34).contains(&names(text).len()), "{mismatch}");
+}
+
+/// What is found is a question for the order of so many records.
+#[track_caller]
+fn assert_order_of(count: usize, wrong: fn(&Case) -> Answer) {
+    let mismatch = found(wrong);
+    let Case::Order { records, .. } = &mismatch.case else {
+        panic!("{mismatch}")
+    };
+    assert_eq!(records.len(), count, "{mismatch}");
+}
+
+#[test]
+fn wrong_lists_are_found_with_two_or_three_records() {
+    assert_order_of(2, in_record_order);
+    assert_order_of(2, highest_first);
+    assert_order_of(3, in_rounds);
+    assert_order_of(2, definitions_numbered);
+    assert_order_of(2, await_of_two);
+}
+
+#[test]
+fn a_circle_that_is_not_refused_is_found_with_two_records() {
+    assert_order_of(2, no_circles);
+}
+
+#[test]
+fn wrong_places_of_21_are_found_with_the_circles_and_a_record() {
+    assert_order_of(3, first_unlisted);
+    assert_order_of(5, between_circles);
+}
+
+#[test]
+fn a_circle_before_59_is_found_with_three_records() {
+    assert_order_of(3, circle_before_59);
 }
 
 #[test]

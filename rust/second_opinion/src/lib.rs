@@ -10,6 +10,9 @@
 //! implicit clock with a record of its own. The calls on records are told how
 //! many clocks are named, then how many there are, implicit ones included.
 //!
+//! Since M-102 there is one more question: the definition records "in working
+//! order".
+//!
 //! The crate is written from the scope paper (document 01) and the change
 //! requests (document 02) alone, and shares nothing with the monitor that it is
 //! held against. Quoted sentences in these comments are the scope paper's, or a
@@ -18,6 +21,7 @@
 #![forbid(unsafe_code)]
 #![warn(missing_docs)]
 
+mod order;
 mod place;
 mod recording;
 mod rule;
@@ -25,6 +29,7 @@ mod run;
 mod step;
 mod table;
 
+pub use order::definition_order;
 pub use place::{same_place, told_apart, SamePlace};
 pub use rule::{judge, start_word, Kind, Record};
 pub use run::{run, Report, Verdict};

@@ -6,27 +6,6 @@ mod common;
 use common::*;
 use second_opinion::*;
 
-/// A small generator of numbers, the same on every run.
-struct Numbers(u64);
-
-impl Numbers {
-    fn next(&mut self) -> u64 {
-        self.0 = self
-            .0
-            .wrapping_mul(6364136223846793005)
-            .wrapping_add(1442695040888963407);
-        self.0 >> 33
-    }
-
-    fn below(&mut self, bound: u64) -> u64 {
-        self.next() % bound
-    }
-
-    fn pick<T: Copy>(&mut self, from: &[T]) -> T {
-        from[self.below(from.len() as u64) as usize]
-    }
-}
-
 #[test]
 fn random_words_make_no_run_panic() {
     let mut numbers = Numbers(1);
@@ -129,6 +108,10 @@ fn random_numbers_make_no_question_panic() {
             assert_eq!(after, given);
         }
         same_place(&records[..count], named, clocks, &given, &other);
+        match definition_order(&records[..count], named, clocks) {
+            Ok(order) => assert!(order.len() <= count),
+            Err(refusal) => assert!([21, 59].contains(&refusal.number)),
+        }
         let (holds, word) = judge(&records[0], given[0], ticks);
         assert!(holds || word == given[0]);
         start_word(&records[0]);

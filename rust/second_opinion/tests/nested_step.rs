@@ -25,13 +25,14 @@ fn accepted(after: &[i64]) -> (StepAnswer, Configuration) {
     (StepAnswer::Accepted, words(after))
 }
 
-/// The 59 of a list, which the step, the same-place question and the start
-/// words must give alike.
+/// The 59 of a list, which the step, the same-place question, the start words
+/// and the order must give alike.
 fn list_refusal(records: &[Record], named: u64, clocks: u64) -> Option<u64> {
     let mut zero = [0; WORDS];
     let start = start_words(records, named, clocks);
     let answer = step(records, named, clocks, &mut zero, 0);
     let place = same_place(records, named, clocks, &zero, &zero);
+    assert_eq!(order_refusal(records, named, clocks), start.err());
     match (start, answer, place) {
         (Err(start), StepAnswer::Refused(answer), SamePlace::Refused(place)) => {
             assert_eq!((start, answer), (place, place));

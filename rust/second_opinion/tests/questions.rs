@@ -22,13 +22,15 @@ fn place_of(
     same_place(records, clocks, clocks, &one, &other)
 }
 
-/// The 59 of a list, which both questions and the start words must give.
+/// The 59 of a list, which both questions, the start words and the order must
+/// give.
 fn list_refusal(records: &[Record], clocks: u64) -> Option<u64> {
     let start = [0; WORDS];
     let stepped = stepped(records, clocks, start, 0).0;
     let place = place_of(records, clocks, start, start);
     let refused = start_words(records, clocks, clocks).err();
     assert_eq!(refused.map(StepAnswer::Refused), refusal_of(stepped));
+    assert_eq!(order_refusal(records, clocks, clocks), refused);
     match (stepped, place) {
         (StepAnswer::Refused(one), SamePlace::Refused(other)) => {
             assert_eq!(one, other);

@@ -2,6 +2,7 @@
 
 pub mod damage;
 pub mod nested;
+pub mod orders;
 pub mod recording_limits;
 pub mod recordings;
 pub mod records;
@@ -44,10 +45,12 @@ pub enum Group {
     SamePlace,
     /// The same-place question, answered by search.
     SamePlaceBySearch,
+    /// The working order.
+    Order,
 }
 
 /// The groups, and how often each comes up.
-pub const GROUPS: [(usize, Group); 13] = [
+pub const GROUPS: [(usize, Group); 14] = [
     (600, Group::Table),
     (1700, Group::TableLimits),
     (900, Group::DamagedTable),
@@ -61,6 +64,7 @@ pub const GROUPS: [(usize, Group); 13] = [
     (1800, Group::Step),
     (900, Group::SamePlace),
     (310, Group::SamePlaceBySearch),
+    (900, Group::Order),
 ];
 
 /// A random question.
@@ -101,6 +105,7 @@ pub fn of(random: &mut Random, group: Group) -> Case {
         Group::Step => records::step(random),
         Group::SamePlace => records::place(random),
         Group::SamePlaceBySearch => records::search(random),
+        Group::Order => orders::order(random),
     }
 }
 

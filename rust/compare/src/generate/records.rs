@@ -3,7 +3,7 @@
 
 use super::tables::{self, Size};
 use super::ticks::{self, Judged};
-use crate::case::Case;
+use crate::case::{table_clocks, Case};
 use crate::monitors::{defines, KINDS};
 use crate::random::Random;
 use ccsl::Clocks;
@@ -46,9 +46,9 @@ const COUNTS: [u32; 13] = [
 ];
 
 /// Records over a number of clocks, well formed.
-struct Material {
-    records: Vec<Record>,
-    clocks: Clocks,
+pub struct Material {
+    pub records: Vec<Record>,
+    pub clocks: Clocks,
 }
 
 /// A question about start words.
@@ -205,11 +205,8 @@ impl Material {
         let text = tables::text(random, size);
         let table = second_opinion::read_table(&text).unwrap_or_default();
         Material {
+            clocks: table_clocks(&table),
             records: table.records,
-            clocks: Clocks {
-                named: table.named as u32,
-                count: table.clocks as u32,
-            },
         }
     }
 
@@ -232,7 +229,7 @@ impl Material {
 
 /// A record over different clocks, with anything where its kind names nothing. It uses an implicit
 /// clock only where it is among those that are defined above, and defines often one that is not.
-fn record(random: &mut Random, clocks: Clocks, defined: &[u64]) -> Record {
+pub fn record(random: &mut Random, clocks: Clocks, defined: &[u64]) -> Record {
     let is_named = |clock: &u64| *clock < u64::from(clocks.named);
     let (mut order, waiting): (Vec<u64>, Vec<u64>) =
         (0..u64::from(clocks.count)).partition(|clock| is_named(clock) || defined.contains(clock));
@@ -256,10 +253,7 @@ fn record(random: &mut Random, clocks: Clocks, defined: &[u64]) -> Record {
         .copied()
         .chain(waiting.clone())
         .collect();
-    let number = match kind {
-        Kind::Await => random.pick(&[1, 1, 2, 2, 3, 10, 999_999, 1_000_000]),
-        _ => free(random),
-    };
+    let number = number(random, kind);
     let pair = !matches!(kind, Kind::Empty | Kind::Await);
     Record {
         kind,
@@ -280,8 +274,16 @@ fn record(random: &mut Random, clocks: Clocks, defined: &[u64]) -> Record {
     }
 }
 
+/// A number for an await, or for a kind that names none.
+pub fn number(random: &mut Random, kind: Kind) -> u64 {
+    match kind {
+        Kind::Await => random.pick(&[1, 1, 2, 2, 3, 10, 999_999, 1_000_000]),
+        _ => free(random),
+    }
+}
+
 /// A number for a field that means nothing.
-fn free(random: &mut Random) -> u64 {
+pub fn free(random: &mut Random) -> u64 {
     if random.once_in(4) {
         random.pick(&CLOCKS)
     } else {
@@ -334,7 +336,7 @@ fn small_word(random: &mut Random, record: &Record) -> i64 {
 }
 
 /// 59 and its other side.
-fn spoil_records(random: &mut Random, records: &mut Vec<Record>, clocks: &mut Clocks) {
+pub fn spoil_records(random: &mut Random, records: &mut Vec<Record>, clocks: &mut Clocks) {
     if records.is_empty() || random.once_in(5) {
         return spoil_counts(random, clocks);
     }

@@ -1,9 +1,9 @@
 //! Tick sets on which all records hold, found by mending random ones; and some on which one fails.
 //! A set has named clocks alone; the ticks of the implicit ones are worked out beside it.
 
-use crate::monitors::defines;
+use crate::monitors::{defines, operands};
 use crate::random::Random;
-use second_opinion::{judge, Kind, Record};
+use second_opinion::{judge, Record};
 
 /// The set of all clocks below the count.
 pub fn all(clocks: u32) -> u32 {
@@ -171,13 +171,4 @@ fn bits(set: u32) -> impl Iterator<Item = u32> {
     (0..32)
         .map(|clock| 1 << clock)
         .filter(move |bit| set & bit != 0)
-}
-
-/// The clocks that the record uses.
-fn operands(record: &Record) -> Vec<u64> {
-    match record.kind {
-        Kind::Empty => Vec::new(),
-        Kind::Await => vec![record.first],
-        _ => vec![record.first, record.second],
-    }
 }

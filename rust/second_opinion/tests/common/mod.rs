@@ -75,6 +75,12 @@ pub fn refused(number: u64, place: usize) -> StepAnswer {
     StepAnswer::Refused(refusal(number, place))
 }
 
+/// What the order question refuses, 21 aside.
+pub fn order_refusal(records: &[Record], named: u64, clocks: u64) -> Option<Refusal> {
+    let refused = definition_order(records, named, clocks).err();
+    refused.filter(|refusal| refusal.number != 21)
+}
+
 /// The refusal of a table that must have one.
 pub fn table_refusal(text: impl AsRef<[u8]>) -> (u64, u64) {
     let refusal = read_table(text.as_ref()).expect_err("a refused table");
@@ -128,5 +134,26 @@ pub fn await_definition(c: u64, n: u64, a: u64, line: u64) -> Record {
     Record {
         number: n,
         ..definition(Kind::Await, c, a, 0, line)
+    }
+}
+
+/// A small generator of numbers, the same on every run.
+pub struct Numbers(pub u64);
+
+impl Numbers {
+    pub fn next(&mut self) -> u64 {
+        self.0 = self
+            .0
+            .wrapping_mul(6364136223846793005)
+            .wrapping_add(1442695040888963407);
+        self.0 >> 33
+    }
+
+    pub fn below(&mut self, bound: u64) -> u64 {
+        self.next() % bound
+    }
+
+    pub fn pick<T: Copy>(&mut self, from: &[T]) -> T {
+        from[self.below(from.len() as u64) as usize]
     }
 }
