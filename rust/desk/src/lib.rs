@@ -1,0 +1,50 @@
+//! What the desk asks of a table beside a run, as text. All answers are the proved library's.
+
+use ccsl::{Record, Refusal};
+
+/// What is printed, and the exit status, as `./ccsl` has it.
+#[derive(Debug, PartialEq, Eq)]
+pub struct Answer {
+    pub text: String,
+    pub status: u8,
+}
+
+const LISTED: u8 = 0;
+const REFUSED: u8 = 2;
+
+/// The definitions of a table in working order, a line each: the record's number, its table line's
+/// number, and that line as it is written. Where they lie in a circle, the refusal, and below it the
+/// record at its place in the same form; of a refused table the refusal alone.
+pub fn order(text: &[u8]) -> Answer {
+    let table = match ccsl::read_table(text) {
+        Ok(table) => table,
+        Err(refusal) => return refused(refusal, String::new()),
+    };
+    let shown = |number: usize| shown(text, number, &table.records[number - 1]);
+    match ccsl::definition_order(&table.records, table.counts()) {
+        Ok(numbers) => Answer {
+            text: numbers.into_iter().map(shown).collect(),
+            status: LISTED,
+        },
+        // The records of a table that was read pass 59, so that the place is a record's number.
+        Err(refusal) => refused(refusal, shown(refusal.place as usize)),
+    }
+}
+
+/// A record of a table by its number, its line's number and that line.
+fn shown(text: &[u8], number: usize, record: &Record) -> String {
+    let mut lines = text.split(|byte| *byte == b'\n');
+    let line = lines.nth(record.line as usize - 1).unwrap_or(b"");
+    format!(
+        "{number} {} {}\n",
+        record.line,
+        String::from_utf8_lossy(line)
+    )
+}
+
+fn refused(refusal: Refusal, below: String) -> Answer {
+    Answer {
+        text: format!("{refusal}\n{below}"),
+        status: REFUSED,
+    }
+}
