@@ -22,6 +22,13 @@ pub enum Input {
         records: Vec<Record>,
         words: Configuration,
     },
+    /// Records whose working order is asked for, and the number of the limit that they break, 0 where
+    /// they break none.
+    Order {
+        numbers: Vec<u64>,
+        records: Vec<Record>,
+        number: u64,
+    },
 }
 
 /// Clocks of the tables with many constraints.
@@ -34,7 +41,7 @@ const NAMED: u32 = 16;
 const TABLE_BYTES: usize = 4096;
 
 /// The names of the workloads.
-pub const WORKLOADS: [&str; 12] = [
+pub const WORKLOADS: [&str; 14] = [
     "dense",
     "wide",
     "marks",
@@ -47,6 +54,8 @@ pub const WORKLOADS: [&str; 12] = [
     "read_openers",
     "step",
     "same_place",
+    "order",
+    "order_circle",
 ];
 
 /// What the workloads are, for a reader of the table.
@@ -69,6 +78,9 @@ Tables that are read alone, by their size in bytes:
 Calls, by the number of records:
 - step: all 32 clocks tick, on the first constraints of dense
 - same_place: two equal configurations, on the first constraints of dense
+- order: the working order of at most 31 definitions below as many relations or more, each of which
+  rests on the two above it
+- order_circle: 32 definitions in one circle, below 32 relations, refused with 21
 
 The lists that the library writes are set to 0 before each run. Records are handed to it as
 prepared numbers.";
@@ -76,7 +88,8 @@ prepared numbers.";
 /// The sizes that a workload is measured at.
 pub fn sizes(workload: &str) -> Vec<usize> {
     let powers = match workload {
-        "step" | "same_place" => 0..=6,
+        "step" | "same_place" | "order" => 0..=6,
+        "order_circle" => 6..=6,
         _ if workload.starts_with("read_") => 12..=12,
         _ => 10..=16,
     };
@@ -130,6 +143,8 @@ pub fn input(workload: &str, size: usize) -> Option<Input> {
             records,
             words: [0; WORDS],
         }),
+        "order" => Some(order(size, (size / 2).min(31), above, 0)),
+        "order_circle" => Some(order(size, size / 2, around, 21)),
         _ => None,
     }
 }
@@ -292,15 +307,49 @@ fn wide_declarations() -> String {
     ignored + &known + "$enddefinitions $end\n"
 }
 
-/// The first records of the dense table, as numbers and as they are.
+/// So many records: relations, and below them definitions.
+fn order(size: usize, definitions: usize, definition: fn(usize) -> String, number: u64) -> Input {
+    let relation = |i: usize| format!("c{} = c{}", i % 31, i % 31 + 1);
+    let rows: Vec<String> = (definitions..size)
+        .map(relation)
+        .chain((0..definitions).map(definition))
+        .collect();
+    let (numbers, records) = records_of(&rows.join("\n"));
+    Input::Order {
+        numbers,
+        records,
+        number,
+    }
+}
+
+/// A definition that rests on the two above it.
+fn above(i: usize) -> String {
+    match i {
+        0 => "c1 clockDef await 1 c0".to_string(),
+        _ => format!("c{} clockDef c{i} lub c{}", i + 1, i - 1),
+    }
+}
+
+/// A definition that rests on the one below it, the last of 32 on the first.
+fn around(i: usize) -> String {
+    format!("c{i} clockDef await 1 c{}", (i + 1) % 32)
+}
+
+/// The first records of the dense table.
 fn records(count: usize) -> (Vec<u64>, Vec<Record>) {
-    let text = dense_table();
-    let read = ccsl::read_table(text.as_bytes()).expect("the dense table is read");
-    let other = second_opinion::read_table(text.as_bytes()).expect("the dense table is read");
-    (
-        ccsl::numbers(&read.records[..count]),
-        other.records[..count].to_vec(),
-    )
+    let lines: Vec<String> = dense_table()
+        .lines()
+        .take(count)
+        .map(String::from)
+        .collect();
+    records_of(&lines.join("\n"))
+}
+
+/// The records of a table, as numbers and as they are.
+fn records_of(text: &str) -> (Vec<u64>, Vec<Record>) {
+    let read = ccsl::read_table(text.as_bytes()).expect("the table is read");
+    let other = second_opinion::read_table(text.as_bytes()).expect("the table is read");
+    (ccsl::numbers(&read.records), other.records)
 }
 
 impl Input {
@@ -351,6 +400,21 @@ impl Input {
                 );
                 black_box(answer)[0] == 0
             }
+            Input::Order {
+                numbers, number, ..
+            } => {
+                let mut answer = [0; ccsl::raw::ORDER_ANSWER];
+                let mut order = [0; ccsl::raw::CLOCKS];
+                ccsl::raw::definition_order(
+                    black_box(numbers),
+                    CLOCKS,
+                    CLOCKS,
+                    &mut answer,
+                    &mut order,
+                );
+                black_box(&order);
+                black_box(answer)[1] == *number
+            }
         }
     }
 
@@ -385,6 +449,16 @@ impl Input {
                     words,
                 );
                 black_box(answer) == second_opinion::SamePlace::Same
+            }
+            Input::Order {
+                records, number, ..
+            } => {
+                let order = black_box(second_opinion::definition_order(
+                    black_box(records),
+                    u64::from(CLOCKS),
+                    u64::from(CLOCKS),
+                ));
+                order.map_or_else(|refusal| refusal.number, |_| 0) == *number
             }
         }
     }
