@@ -13,6 +13,7 @@ use Rattle.text.specs.Split.{runEnd}
 use Rattle.text.proofs.Runs.{all-from}
 use Rattle.recording.specs.BeforeWords.{recorded, BeforeWords}
 use Rattle.recording.specs.Header.{firstOther, opened}
+use Rattle.recording.specs.Variables.{Naming}
 use Rattle.recording.proofs.HeaderLaws.{opened-long, opened-other, opened-header}
 
 -- a run ends where the first byte stands that does not pass
@@ -25,14 +26,14 @@ run-to p b l q (x ∷ a) at h = go (p x) h (run-to p b l q a (at + 1))
     go true h ih = omega (arith, ih h)
     go false h ih = absurd (false≢true h)
 
-other-at : (named : List ℕ → ℕ) (n : ℕ) (a : List ℕ) (b : ℕ) (l : List ℕ) → length (a ++ b ∷ l) ≤ 65_536 → allBytes recorded a ≡ true → recorded b ≡ false
-    → opened named n (a ++ b ∷ l) ≡ stopped RecordingByte (length a)
-other-at named n a b l h g e =
-    opened-other named n (a ++ b ∷ l) (omega arith) (length a) (omega (arith, run-to recorded b l e a 0 g)) (omega (arith, length-append a (b ∷ l)))
+other-at : (g : Naming) (a : List ℕ) (b : ℕ) (l : List ℕ) → length (a ++ b ∷ l) ≤ 65_536 → allBytes recorded a ≡ true → recorded b ≡ false
+    → opened g (a ++ b ∷ l) ≡ stopped RecordingByte (length a)
+other-at g a b l h f e =
+    opened-other g (a ++ b ∷ l) (omega arith) (length a) (omega (arith, run-to recorded b l e a 0 f)) (omega (arith, length-append a (b ∷ l)))
 
 pub before-words : BeforeWords
 before-words = record {
-  long = λ named n r h. opened-long named n r (omega arith);
+  long = λ g r h. opened-long g r (omega arith);
   other = other-at;
-  header = λ named n r h g. opened-header named n r (omega arith) (firstOther r) refl (leb-true (length r) (firstOther r) (all-from recorded r 0 ∙ g));
+  header = λ g r h f. opened-header g r (omega arith) (firstOther r) refl (leb-true (length r) (firstOther r) (all-from recorded r 0 ∙ f));
 }

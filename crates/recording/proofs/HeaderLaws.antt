@@ -22,7 +22,7 @@ use Rattle.text.specs.declared.Span.{Span}
 use Rattle.text.proofs.Runs.{is-word, is-last, words-over}
 use Rattle.recording.specs.Answers.{afterEnd, Resumes, FiveWords, declaredAs, headerAs, Declares}
 use Rattle.recording.specs.Header.{words, says, commandOf, shaped, declare, Header, cutOff, close, byCommand, header, skipping, declaring, mostBytes, firstOther, opened}
-use Rattle.recording.specs.Variables.{Variable, lookUp, isDeclared, clockAgain, allDeclared}
+use Rattle.recording.specs.Variables.{Variable, Naming, lookUp, isDeclared, clockAgain, allDeclared}
 use Rattle.recording.specs.declared.Command.{Command}
 use Rattle.recording.specs.declared.Command.the-variants.{Skipped, Declaration, Definitions, Unknown}
 use Rattle.recording.specs.Index.{declared}
@@ -114,25 +114,25 @@ module _ (n : ℕ) (r : List ℕ) (at : ℕ) (vs : List Variable) (ws : List Spa
 pub shaped-short : (r : List ℕ) (kind width id last : Span) → shaped r kind width id last ≡ true → length (bytesOf r id) ≤ 4
 shaped-short r kind width id last e = leb-true (length (bytesOf r id)) 4 (and-r (says (bytesOf r kind) "event" && says (bytesOf r width) "1") _ (and-l _ (says (bytesOf r last) "$end") e))
 
-module _ (named : List ℕ → ℕ) (r : List ℕ) (at : ℕ) (vs : List Variable) (kind width id name last : Span) where
+module _ (g : Naming) (r : List ℕ) (at : ℕ) (vs : List Variable) (kind width id name last : Span) where
   abbrev twice : Bool
-  twice = isDeclared (lookUp vs (bytesOf r id)) || clockAgain vs (named (bytesOf r name))
+  twice = isDeclared (lookUp vs (bytesOf r id)) || clockAgain vs (g .named (bytesOf r name))
 
-  pub declare-shape : shaped r kind width id last ≡ false → declare named r at vs kind width id name last ≡ stopped VariableShape at
+  pub declare-shape : shaped r kind width id last ≡ false → declare g r at vs kind width id name last ≡ stopped VariableShape at
   unfolding declare
   declare-shape s = refuses _ _ _ _ (ap not s)
 
   module _ (s : shaped r kind width id last ≡ true) where
-    pub declare-twice : twice ≡ true → declare named r at vs kind width id name last ≡ stopped DeclaredTwice at
+    pub declare-twice : twice ≡ true → declare g r at vs kind width id name last ≡ stopped DeclaredTwice at
     unfolding declare
     declare-twice d = allows _ _ _ _ (ap not s) ∙ refuses _ _ _ _ d
 
     module _ (d : twice ≡ false) where
-      pub declare-full : 128 ≤ length vs → declare named r at vs kind width id name last ≡ stopped VariableCount at
+      pub declare-full : 128 ≤ length vs → declare g r at vs kind width id name last ≡ stopped VariableCount at
       unfolding declare
       declare-full h = allows _ _ _ _ (ap not s) ∙ allows _ _ _ _ d ∙ refuses _ _ _ _ (le-leb 128 (length vs) h)
 
-      pub declare-more : length vs < 128 → declare named r at vs kind width id name last ≡ passed (vs ++ record { id = bytesOf r id; clock = named (bytesOf r name) } ∷ [])
+      pub declare-more : length vs < 128 → declare g r at vs kind width id name last ≡ passed (vs ++ record { id = bytesOf r id; clock = g .named (bytesOf r name) } ∷ [])
       unfolding declare
       declare-more h = allows _ _ _ _ (ap not s) ∙ allows _ _ _ _ d ∙ allows _ _ _ _ (lt-leb 128 (length vs) h)
 
@@ -151,8 +151,8 @@ module _ (r : List ℕ) (from : ℕ) (ws : Words) (five : FiveWords r from ws) w
   fourth : words r (ws .name .end) ≡ rest (rest (rest (rest (words r from))))
   fourth = five .name .after ∙ ap rest (five .id .after ∙ ap rest (five .width .after ∙ ap rest (five .kind .after)))
 
-  module _ (named : List ℕ → ℕ) (n : ℕ) (vs : List Variable) (at : ℕ) where
-    short : (us : List Span) → rest (rest (rest (rest us))) ≡ [] → declaring named n r vs at us ≡ cutOff r
+  module _ (g : Naming) (vs : List Variable) (at : ℕ) where
+    short : (us : List Span) → rest (rest (rest (rest us))) ≡ [] → declaring g r vs at us ≡ cutOff r
     unfolding declaring rest
     short [] e = refl
     short (a ∷ []) e = refl
@@ -162,8 +162,8 @@ module _ (r : List ℕ) (from : ℕ) (ws : Words) (five : FiveWords r from ws) w
     short (a ∷ b ∷ c ∷ d ∷ l ∷ us) e = absurd (nil≢cons (sym e))
 
     long : (us : List Span) (l : Span) (later : List Span) → rest (rest (rest (rest us))) ≡ l ∷ later
-        → declaring named n r vs at us
-        ≡ andThen (declare named r at vs (front r us) (front r (rest us)) (front r (rest (rest us))) (front r (rest (rest (rest us)))) l) (λ v. header named n r v later)
+        → declaring g r vs at us
+        ≡ andThen (declare g r at vs (front r us) (front r (rest us)) (front r (rest (rest us))) (front r (rest (rest (rest us)))) l) (λ v. header g r v later)
     unfolding declaring rest front
     long [] l later e = absurd (nil≢cons e)
     long (a ∷ []) l later e = absurd (nil≢cons e)
@@ -172,19 +172,19 @@ module _ (r : List ℕ) (from : ℕ) (ws : Words) (five : FiveWords r from ws) w
     long (a ∷ b ∷ c ∷ d ∷ []) l later e = absurd (nil≢cons e)
     long (a ∷ b ∷ c ∷ d ∷ x ∷ us) l later e = rw (head-eq-of-cons-eq e, tail-eq-of-cons-eq e)
 
-    pub five-stop : ws .last .end ≤ ws .last .start → (o : Check) (g : Header) → o ≡ Refused (record { limit = HeaderCutOff; place = record { 0 = length r } })
-        → declaring named n r vs at (words r from) ≡ andThen (checked o g) (λ h. header named n r (h .variables) (h .body))
-    five-stop h o g e =
-        short (words r from) (sym fourth ∙ is-last r Parting (ws .name .end) (ws .last) (five .last) h) ∙ sym (stays-stopped (checked o g) (λ h. header named n r (h .variables) (h .body)) _ _ (stops o g _ _ e))
+    pub five-stop : ws .last .end ≤ ws .last .start → (o : Check) (d : Header) → o ≡ Refused (record { limit = HeaderCutOff; place = record { 0 = length r } })
+        → declaring g r vs at (words r from) ≡ andThen (checked o d) (λ h. header g r (h .variables) (h .body))
+    five-stop h o d e =
+        short (words r from) (sym fourth ∙ is-last r Parting (ws .name .end) (ws .last) (five .last) h) ∙ sym (stays-stopped (checked o d) (λ h. header g r (h .variables) (h .body)) _ _ (stops o d _ _ e))
 
-    pub five-on : ws .last .start < ws .last .end → (d : Declared) → declaredAs d ≡ declare named r at vs (ws .kind) (ws .width) (ws .id) (ws .name) (ws .last)
-        → declaring named n r vs at (words r from) ≡ andThen {A = Header} (checked (d .outcome) (record { variables = declared (d .variables); body = words r (ws .last .end) })) (λ h. header named n r (h .variables) (h .body))
+    pub five-on : ws .last .start < ws .last .end → (d : Declared) → declaredAs d ≡ declare g r at vs (ws .kind) (ws .width) (ws .id) (ws .name) (ws .last)
+        → declaring g r vs at (words r from) ≡ andThen {A = Header} (checked (d .outcome) (record { variables = declared (d .variables); body = words r (ws .last .end) })) (λ h. header g r (h .variables) (h .body))
     five-on h d e =
         let u = words r from in
         let width : ws .width ≡ front r (rest u) = five .width .found ∙ ap (front r) (five .kind .after) in
         let id : ws .id ≡ front r (rest (rest u)) = five .id .found ∙ ap (front r) (five .width .after ∙ ap rest (five .kind .after)) in
         let name : ws .name ≡ front r (rest (rest (rest u))) = five .name .found ∙ ap (front r) (five .id .after ∙ ap rest (five .width .after ∙ ap rest (five .kind .after))) in
-        long u (ws .last) (words r (ws .last .end)) (sym fourth ∙ is-word r Parting (ws .name .end) (ws .last) (five .last) h) ∙ rw (← five .kind .found, ← width, ← id, ← name, ← e) (left-after (d .outcome) (declared (d .variables)) (words r (ws .last .end)) (header named n r))
+        long u (ws .last) (words r (ws .last .end)) (sym fourth ∙ is-word r Parting (ws .name .end) (ws .last) (five .last) h) ∙ rw (← five .kind .found, ← width, ← id, ← name, ← e) (left-after (d .outcome) (declared (d .variables)) (words r (ws .last .end)) (header g r))
 
   -- each word ends further on
   pub five-forward : ws .last .start < ws .last .end → from < ws .last .end
@@ -197,70 +197,70 @@ module _ (r : List ℕ) (from : ℕ) (ws : Words) (five : FiveWords r from ws) w
       omega (arith, some-forward r from (ws .kind) (five .kind) first, some-forward r (ws .kind .end) (ws .width) (five .width) kind, some-forward r (ws .width .end) (ws .id) (five .id) width, some-forward r (ws .id .end) (ws .name) (five .name) id, some-forward r (ws .name .end) (ws .last) (five .last) name)
 
 -- ---- command by command
-module _ (named : List ℕ → ℕ) (n : ℕ) (r : List ℕ) (vs : List Variable) where
-  pub header-done : (ws : List Span) → ws ≡ [] → header named n r vs ws ≡ cutOff r
+module _ (g : Naming) (r : List ℕ) (vs : List Variable) where
+  pub header-done : (ws : List Span) → ws ≡ [] → header g r vs ws ≡ cutOff r
   unfolding header
   header-done ws e = rw e
 
   -- a skipped command: the header goes on behind its `$end`
-  skipping-on : (ws : List Span) → skipping named n r vs ws ≡ header named n r vs (afterEnd r ws)
+  skipping-on : (ws : List Span) → skipping g r vs ws ≡ header g r vs (afterEnd r ws)
   unfolding skipping afterEnd
   skipping-on [] = sym (header-done [] refl)
   skipping-on (w ∷ ws) = go (says (bytesOf r w) "$end") (skipping-on ws)
     where
-      go : (x : Bool) → skipping named n r vs ws ≡ header named n r vs (afterEnd r ws)
-          → cond x (header named n r vs ws) (skipping named n r vs ws) ≡ header named n r vs (cond x ws (afterEnd r ws))
+      go : (x : Bool) → skipping g r vs ws ≡ header g r vs (afterEnd r ws)
+          → cond x (header g r vs ws) (skipping g r vs ws) ≡ header g r vs (cond x ws (afterEnd r ws))
       go true ih = refl
       go false ih = ih
 
   -- with the next word, where the header from an offset on is what was to be read
-  module _ (at : ℕ) (w : Span) (next : NextWord Parting r at w) (z : Checked Header) (from : header named n r vs (words r at) ≡ z) where
+  module _ (at : ℕ) (w : Span) (next : NextWord Parting r at w) (z : Checked Header) (from : header g r vs (words r at) ≡ z) where
     pub cut-done : w .end ≤ w .start → (o : Check) (h : Header) → o ≡ Refused (record { limit = HeaderCutOff; place = record { 0 = length r } }) → checked o h ≡ z
     cut-done l o h e = stops o h _ _ e ∙ sym (header-done (words r at) (is-last r Parting at w next l)) ∙ from
 
     module _ (some : w .start < w .end) where
       opens : (k : Command) → commandOf (bytesOf r w) ≡ k
-          → byCommand k (skipping named n r vs (words r (w .end))) (declaring named n r vs (w .start) (words r (w .end))) (close n r (w .start) vs (words r (w .end))) (stopped HeaderCommand (w .start))
+          → byCommand k (skipping g r vs (words r (w .end))) (declaring g r vs (w .start) (words r (w .end))) (close (g .count) r (w .start) vs (words r (w .end))) (stopped HeaderCommand (w .start))
           ≡ z
       unfolding header
       opens k e = rw (is-word r Parting at w next some, e) at from
 
-      pub skipped-on : commandOf (bytesOf r w) ≡ Skipped → (i : ℕ) → Resumes r (w .end) i → header named n r vs (words r i) ≡ z
+      pub skipped-on : commandOf (bytesOf r w) ≡ Skipped → (i : ℕ) → Resumes r (w .end) i → header g r vs (words r i) ≡ z
       skipped-on k i s = rw (s .left) (sym (skipping-on (words r (w .end))) ∙ opens Skipped k)
 
-      module _ (k : commandOf (bytesOf r w) ≡ Declaration) (h : HeaderRead) (d : Declares named n r vs w h) where
+      module _ (k : commandOf (bytesOf r w) ≡ Declaration) (h : HeaderRead) (d : Declares g r vs w h) where
         pub declared-stop : (f : Refusal) → h .outcome ≡ Refused f → headerAs r h ≡ z
         declared-stop f e = sym (ends-there (h .outcome) _ _ f e) ∙ sym (d .says) ∙ opens Declaration k
 
-        pub declared-on : h .outcome ≡ Passed → header named n r (declared (h .variables)) (words r (h .body)) ≡ z
+        pub declared-on : h .outcome ≡ Passed → header g r (declared (h .variables)) (words r (h .body)) ≡ z
         declared-on e = sym (goes-on (h .outcome) _ _ e) ∙ sym (d .says) ∙ opens Declaration k
 
-      pub definitions-done : commandOf (bytesOf r w) ≡ Definitions → (c : Checked Header) → c ≡ close n r (w .start) vs (words r (w .end)) → c ≡ z
+      pub definitions-done : commandOf (bytesOf r w) ≡ Definitions → (c : Checked Header) → c ≡ close (g .count) r (w .start) vs (words r (w .end)) → c ≡ z
       definitions-done k c e = e ∙ opens Definitions k
 
       pub unknown-stop : commandOf (bytesOf r w) ≡ Unknown → (o : Check) (h : Header) → o ≡ Refused (record { limit = HeaderCommand; place = record { 0 = w .start } }) → checked o h ≡ z
       unknown-stop k o h e = stops o h _ _ e ∙ opens Unknown k
 
 -- ---- before words
-module _ (named : List ℕ → ℕ) (n : ℕ) (r : List ℕ) where
-  pub opened-long : mostBytes < length r → opened named n r ≡ stopped RecordingLength 0
+module _ (g : Naming) (r : List ℕ) where
+  pub opened-long : mostBytes < length r → opened g r ≡ stopped RecordingLength 0
   unfolding opened
   opened-long h = refuses _ _ _ _ (lt-ltb mostBytes (length r) h)
 
   module _ (h : length r ≤ mostBytes) where
-    pub opened-other : (i : ℕ) → i ≡ firstOther r → i < length r → opened named n r ≡ stopped RecordingByte i
+    pub opened-other : (i : ℕ) → i ≡ firstOther r → i < length r → opened g r ≡ stopped RecordingByte i
     unfolding opened
     opened-other i e k = allows _ _ _ _ (le-ltb mostBytes (length r) h) ∙ rw (← e) (refuses _ _ _ _ (lt-ltb i (length r) k))
 
-    pub opened-header : (i : ℕ) → i ≡ firstOther r → length r ≤ i → opened named n r ≡ header named n r [] (words r 0)
+    pub opened-header : (i : ℕ) → i ≡ firstOther r → length r ≤ i → opened g r ≡ header g r [] (words r 0)
     unfolding opened
     opened-header i e k = allows _ _ _ _ (le-ltb mostBytes (length r) h) ∙ allows _ _ _ _ (ap (λ (x : ℕ). ltb x (length r)) (sym e) ∙ le-ltb i (length r) k)
 
   -- a header is read of a recording within limit 30 alone
-  pub opened-within : (h : Header) → opened named n r ≡ passed h → length r ≤ mostBytes
+  pub opened-within : (h : Header) → opened g r ≡ passed h → length r ≤ mostBytes
   unfolding opened
   opened-within h e = go (decLt mostBytes (length r))
     where
       go : Dec (mostBytes < length r) → length r ≤ mostBytes
       go (no k) = omega arith
-      go (yes k) = let s : opened named n r ≡ stopped RecordingLength 0 = opened-long k in let z : _≡_ {A = ℕ} 0 1 = cc in absurd (omega arith)
+      go (yes k) = let s : opened g r ≡ stopped RecordingLength 0 = opened-long k in let z : _≡_ {A = ℕ} 0 1 = cc in absurd (omega arith)

@@ -29,7 +29,7 @@ use Rattle.grammar.specs.declared.Names.{Names}
 use Rattle.recording.specs.Body.{opensMark, isValue, unmarked, begin, ticking, markTurn, foundTurn, variableTurn, changeTurn, wordTurn, Reading, closing, onward, bodySteps, bodyOf, reading}
 use Rattle.limit.specs.Checked.{Checked, passed, stopped, refuseIf, andThen}
 use Rattle.recording.specs.Header.{says, commandOf, shaped, declare, Header, mostBytes, firstOther, close, byCommand, header, skipping, declaring, opened, words}
-use Rattle.recording.specs.Variables.{Variable, clockNamed, withId, lookUp, isDeclared, clockAgain, allDeclared}
+use Rattle.recording.specs.Variables.{Variable, Naming, clockNamed, withId, lookUp, isDeclared, clockAgain, allDeclared}
 use Rattle.recording.specs.declared.Command.{Command}
 use Rattle.recording.specs.declared.Command.the-variants.{Skipped, Declaration, Definitions, Unknown}
 use Rattle.recording.specs.declared.Step.{Step}
@@ -60,7 +60,10 @@ named-clock t ns w = go (position-clock t w 0 (take (ns .count) (ns .spans)))
     go (inl h) = inl (omega (arith, short))
     go (inr h) = inr h
 
-module _ (n : ℕ) (room : n ≤ 32) where
+module _ (g : Naming) (room : g .count ≤ 32) where
+  abbrev n : ℕ
+  n = g .count
+
   -- ---- variables
 
   abbrev Clocks : List Variable → Type 0
@@ -109,16 +112,16 @@ module _ (n : ℕ) (room : n ≤ 32) where
   close-known r at vs [] h = tt
   close-known r at vs (w ∷ ws) h = unless-broken _ (not (says (bytesOf r w) "$end")) _ _ _ (unless-broken _ (not (allDeclared vs n)) _ _ _ h)
 
-  module _ (named : List ℕ → ℕ) (all : (w : List ℕ) → Clock n (named w)) (r : List ℕ) where
-    declare-known : (at : ℕ) (vs : List Variable) (kind width id name last : Span) → Clocks vs → Each Clocks (declare named r at vs kind width id name last)
+  module _ (all : (w : List ℕ) → Clock n (g .named w)) (r : List ℕ) where
+    declare-known : (at : ℕ) (vs : List Variable) (kind width id name last : Span) → Clocks vs → Each Clocks (declare g r at vs kind width id name last)
     unfolding declare
     declare-known at vs kind width id name last h =
-        let v : Variable = record { id = bytesOf r id; clock = named (bytesOf r name) } in
+        let v : Variable = record { id = bytesOf r id; clock = g .named (bytesOf r name) } in
         let added : Checked (List Variable) = passed (vs ++ v ∷ []) in
         let p37 : Checked (List Variable) = refuseIf (leb 128 (length vs)) VariableCount at added in
-        let p34 : Checked (List Variable) = refuseIf (isDeclared (lookUp vs (bytesOf r id)) || clockAgain vs (named (bytesOf r name))) DeclaredTwice at p37 in
+        let p34 : Checked (List Variable) = refuseIf (isDeclared (lookUp vs (bytesOf r id)) || clockAgain vs (g .named (bytesOf r name))) DeclaredTwice at p37 in
         unless-broken Clocks (not (shaped r kind width id last)) VariableShape at p34
-        (unless-broken Clocks (isDeclared (lookUp vs (bytesOf r id)) || clockAgain vs (named (bytesOf r name))) DeclaredTwice at p37
+        (unless-broken Clocks (isDeclared (lookUp vs (bytesOf r id)) || clockAgain vs (g .named (bytesOf r name))) DeclaredTwice at p37
         (unless-broken Clocks (leb 128 (length vs)) VariableCount at added (one-more vs v h (all (bytesOf r name)))))
 
     then-known : (c : Checked (List Variable)) (f : List Variable → Checked Header) → Each Clocks c → ((vs : List Variable) → Clocks vs → Known (f vs)) → Known (andThen c f)
@@ -135,19 +138,19 @@ module _ (n : ℕ) (room : n ≤ 32) where
     mutual
       unfolding header skipping declaring
 
-      header-known : (vs : List Variable) (ws : List Span) → Clocks vs → Known (header named n r vs ws)
+      header-known : (vs : List Variable) (ws : List Span) → Clocks vs → Known (header g r vs ws)
       header-known vs [] h = tt
       header-known vs (w ∷ ws) h = by-command (commandOf (bytesOf r w)) _ _ _ _ (skipping-known vs ws h) (declaring-known vs (w .start) ws h) (close-known r (w .start) vs ws h) tt
 
-      skipping-known : (vs : List Variable) (ws : List Span) → Clocks vs → Known (skipping named n r vs ws)
+      skipping-known : (vs : List Variable) (ws : List Span) → Clocks vs → Known (skipping g r vs ws)
       skipping-known vs [] h = tt
       skipping-known vs (w ∷ ws) h = go (says (bytesOf r w) "$end") (header-known vs ws h) (skipping-known vs ws h)
         where
-          go : (x : Bool) → Known (header named n r vs ws) → Known (skipping named n r vs ws) → Known (cond x (header named n r vs ws) (skipping named n r vs ws))
+          go : (x : Bool) → Known (header g r vs ws) → Known (skipping g r vs ws) → Known (cond x (header g r vs ws) (skipping g r vs ws))
           go true p q = p
           go false p q = q
 
-      declaring-known : (vs : List Variable) (at : ℕ) (ws : List Span) → Clocks vs → Known (declaring named n r vs at ws)
+      declaring-known : (vs : List Variable) (at : ℕ) (ws : List Span) → Clocks vs → Known (declaring g r vs at ws)
       declaring-known vs at [] h = tt
       declaring-known vs at (a ∷ []) h = tt
       declaring-known vs at (a ∷ b ∷ []) h = tt
@@ -155,12 +158,12 @@ module _ (n : ℕ) (room : n ≤ 32) where
       declaring-known vs at (a ∷ b ∷ c ∷ d ∷ []) h = tt
       declaring-known vs at (a ∷ b ∷ c ∷ d ∷ e ∷ ws) h = then-known _ _ (declare-known at vs a b c d e h) (λ us k. header-known us ws k)
 
-    opened-known : Known (opened named n r)
+    opened-known : Known (opened g r)
     unfolding opened
     opened-known =
-        let p31 : Checked Header = refuseIf (ltb (firstOther r) (length r)) RecordingByte (firstOther r) (header named n r [] (words r 0)) in
+        let p31 : Checked Header = refuseIf (ltb (firstOther r) (length r)) RecordingByte (firstOther r) (header g r [] (words r 0)) in
         unless-broken (λ h. Clocks (h .variables)) (ltb mostBytes (length r)) RecordingLength 0 p31
-        (unless-broken (λ h. Clocks (h .variables)) (ltb (firstOther r) (length r)) RecordingByte (firstOther r) (header named n r [] (words r 0)) (header-known [] (words r 0) tt))
+        (unless-broken (λ h. Clocks (h .variables)) (ltb (firstOther r) (length r)) RecordingByte (firstOther r) (header g r [] (words r 0)) (header-known [] (words r 0) tt))
 
   -- ---- the body: only clocks of the table tick
   abbrev Ticking : Step → Type 0
@@ -234,9 +237,9 @@ module _ (n : ℕ) (room : n ≤ 32) where
   one-ticking [] later s h = h .0
   one-ticking (x ∷ before) later s h = one-ticking before later s (h .1)
 
-  pub reading-ticking : (named : List ℕ → ℕ) → ((w : List ℕ) → Clock n (named w)) → (r : List ℕ) → AllTicking (reading named n r .steps)
+  pub reading-ticking : ((w : List ℕ) → Clock n (g .named w)) → (r : List ℕ) → AllTicking (reading g r .steps)
   unfolding onward
-  reading-ticking named all r = go (opened named n r) (opened-known named all r)
+  reading-ticking all r = go (opened g r) (opened-known all r)
     where
       go : (c : Checked Header) → Known c → AllTicking (onward c (bodyOf r) .steps)
       go (passed h) k = body-ticking (h .variables) k r unmarked (h .body) zero-below

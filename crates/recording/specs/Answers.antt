@@ -13,7 +13,7 @@ use Rattle.text.specs.declared.Span.{Span}
 use Rattle.recording.specs.Body.{markTurn, ended, refusedAt, Reading, endsWith, closing, onward, bodySteps}
 use Rattle.recording.specs.Header.{words, says, Header, header, declaring}
 use Rattle.recording.specs.Index.{Indexed, declared}
-use Rattle.recording.specs.Variables.{Variable}
+use Rattle.recording.specs.Variables.{Variable, Naming}
 use Rattle.recording.specs.declared.ChangesRead.{ChangesRead}
 use Rattle.recording.specs.declared.ChangesRead.the-variants.{Mark, End, Refused}
 use Rattle.recording.specs.declared.Declared.{Declared}
@@ -50,8 +50,8 @@ abbrev pub headerAs : List ℕ → HeaderRead → Checked Header
 headerAs r h = checked (h .outcome) (record { variables = declared (h .variables); body = words r (h .body) })
 
 -- the header goes on from what reading a declaration left, which is further on
-pub record Declares (named : List ℕ → ℕ) (n : ℕ) (r : List ℕ) (vs : List Variable) (command : Span) (h : HeaderRead) : Type 0 where
-  pub says : declaring named n r vs (command .start) (words r (command .end)) ≡ andThen (headerAs r h) (λ g. header named n r (g .variables) (g .body))
+pub record Declares (g : Naming) (r : List ℕ) (vs : List Variable) (command : Span) (h : HeaderRead) : Type 0 where
+  pub says : declaring g r vs (command .start) (words r (command .end)) ≡ andThen (headerAs r h) (λ d. header g r (d .variables) (d .body))
   pub indexed : Indexed (h .variables)
   pub forward : h .outcome ≡ Passed → command .end < h .body
 

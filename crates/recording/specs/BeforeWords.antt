@@ -10,13 +10,14 @@ use Rattle.limit.specs.Checked.{stopped}
 use Rattle.limit.specs.declared.Limit.the-variants.{RecordingLength, RecordingByte}
 use Rattle.text.specs.Bytes.{parting, allBytes}
 use Rattle.recording.specs.Header.{words, header, opened}
+use Rattle.recording.specs.Variables.{Naming}
 
 -- a parting byte, or 33 to 126
 abbrev pub recorded : ℕ → Bool
 recorded b = parting b || leb 33 b && leb b 126
 
 pub record BeforeWords : Type 0 where
-  pub long : (named : List ℕ → ℕ) (n : ℕ) (r : List ℕ) → 65_536 < length r → opened named n r ≡ stopped RecordingLength 0
-  pub other : (named : List ℕ → ℕ) (n : ℕ) (front : List ℕ) (b : ℕ) (rest : List ℕ) → length (front ++ b ∷ rest) ≤ 65_536 → allBytes recorded front ≡ true → recorded b ≡ false
-      → opened named n (front ++ b ∷ rest) ≡ stopped RecordingByte (length front)
-  pub header : (named : List ℕ → ℕ) (n : ℕ) (r : List ℕ) → length r ≤ 65_536 → allBytes recorded r ≡ true → opened named n r ≡ header named n r [] (words r 0)
+  pub long : (g : Naming) (r : List ℕ) → 65_536 < length r → opened g r ≡ stopped RecordingLength 0
+  pub other : (g : Naming) (front : List ℕ) (b : ℕ) (rest : List ℕ) → length (front ++ b ∷ rest) ≤ 65_536 → allBytes recorded front ≡ true → recorded b ≡ false
+      → opened g (front ++ b ∷ rest) ≡ stopped RecordingByte (length front)
+  pub header : (g : Naming) (r : List ℕ) → length r ≤ 65_536 → allBytes recorded r ≡ true → opened g r ≡ header g r [] (words r 0)

@@ -21,7 +21,7 @@ use Rattle.grammar.specs.declared.Found.{Found}
 use Rattle.grammar.specs.declared.Found.the-variants.{At, Nothing}
 use Rattle.limit.specs.Checked.{Checked, passed, stopped, refuseIf}
 use Rattle.recording.specs.Header.{Header, opened, words}
-use Rattle.recording.specs.Variables.{Variable, lookUp, withId}
+use Rattle.recording.specs.Variables.{Variable, Naming, lookUp, withId}
 use Rattle.recording.specs.declared.Step.{Step}
 
 -- `#` is byte 35
@@ -102,8 +102,8 @@ abbrev pub bodyOf : List ℕ → Header → Reading
 bodyOf r h = bodySteps (h .variables) r unmarked (h .body)
 
 -- the whole recording
-abbrev pub reading : (named : List ℕ → ℕ) (n : ℕ) → List ℕ → Reading
-reading named n r = onward (opened named n r) (bodyOf r)
+abbrev pub reading : Naming → List ℕ → Reading
+reading g r = onward (opened g r) (bodyOf r)
 
 -- ---- examples: a variable `!` of clock 0, behind a mark at 7
 

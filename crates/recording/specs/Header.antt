@@ -1,5 +1,5 @@
--- The header: document 01, "Recording" and the rows 30 to 37 of "Where each refusal is checked". r is the recording, n the table's clock
--- count, and named gives the number of the clock with a name. Assumes nothing.
+-- The header: document 01, "Recording" and the rows 30 to 37 of "Where each refusal is checked". r is the recording, g what the table says of
+-- names. Assumes nothing.
 use mathlib.Core.Path.{_≡_, refl}
 use mathlib.Core.Bool.{Bool, true, not, cond, _&&_, _||_}
 use mathlib.Core.List.{List, [], _∷_, _++_}
@@ -14,7 +14,7 @@ use Rattle.text.specs.Split.{bytesOf, wordsAt, runEnd, tokens, filled, grown}
 use Rattle.text.specs.declared.Class.the-variants.{Parting, Recorded}
 use Rattle.text.specs.declared.Span.{Span}
 use Rattle.limit.specs.Checked.{Checked, passed, stopped, refuseIf, andThen}
-use Rattle.recording.specs.Variables.{Variable, lookUp, isDeclared, clockAgain, allDeclared}
+use Rattle.recording.specs.Variables.{Variable, Naming, lookUp, isDeclared, clockAgain, allDeclared}
 use Rattle.recording.specs.declared.Command.{Command}
 use Rattle.recording.specs.declared.Command.the-variants.{Skipped, Declaration, Definitions, Unknown}
 
@@ -38,12 +38,12 @@ shaped r kind width id last =
     says (bytesOf r kind) "event" && says (bytesOf r width) "1" && leb (length (bytesOf r id)) 4 && says (bytesOf r last) "$end"
 
 -- a declaration by the command at an offset: 33 another shape; 34 id declared before, or a table clock declared again; 37 a 129th variable
-unfoldable pub declare : (named : List ℕ → ℕ) → List ℕ → (at : ℕ) → List Variable → (kind width id name last : Span) → Checked (List Variable)
-declare named r at vs kind width id name last =
+unfoldable pub declare : Naming → List ℕ → (at : ℕ) → List Variable → (kind width id name last : Span) → Checked (List Variable)
+declare g r at vs kind width id name last =
     refuseIf (not (shaped r kind width id last)) VariableShape at
-    (refuseIf (isDeclared (lookUp vs (bytesOf r id)) || clockAgain vs (named (bytesOf r name))) DeclaredTwice at
+    (refuseIf (isDeclared (lookUp vs (bytesOf r id)) || clockAgain vs (g .named (bytesOf r name))) DeclaredTwice at
     (refuseIf (leb 128 (length vs)) VariableCount at
-    (passed (vs ++ record { id = bytesOf r id; clock = named (bytesOf r name) } ∷ []))))
+    (passed (vs ++ record { id = bytesOf r id; clock = g .named (bytesOf r name) } ∷ []))))
 
 -- a header that was read: its variables, and the words of the body
 pub record Header : Type 0 where
@@ -70,29 +70,29 @@ byCommand Unknown s d e u = u
 
 -- command by command: 36; 32 a word that opens no command
 unfoldable mutual
-  pub header : (named : List ℕ → ℕ) (n : ℕ) → List ℕ → List Variable → List Span → Checked Header
-  header named n r vs [] = cutOff r
-  header named n r vs (w ∷ ws) =
+  pub header : Naming → List ℕ → List Variable → List Span → Checked Header
+  header g r vs [] = cutOff r
+  header g r vs (w ∷ ws) =
       byCommand (commandOf (bytesOf r w))
-      (skipping named n r vs ws)
-      (declaring named n r vs (w .start) ws)
-      (close n r (w .start) vs ws)
+      (skipping g r vs ws)
+      (declaring g r vs (w .start) ws)
+      (close (g .count) r (w .start) vs ws)
       (stopped HeaderCommand (w .start))
 
   -- a skipped command ends at the first `$end`
-  pub skipping : (named : List ℕ → ℕ) (n : ℕ) → List ℕ → List Variable → List Span → Checked Header
-  skipping named n r vs [] = cutOff r
-  skipping named n r vs (w ∷ ws) = cond (says (bytesOf r w) "$end") (header named n r vs ws) (skipping named n r vs ws)
+  pub skipping : Naming → List ℕ → List Variable → List Span → Checked Header
+  skipping g r vs [] = cutOff r
+  skipping g r vs (w ∷ ws) = cond (says (bytesOf r w) "$end") (header g r vs ws) (skipping g r vs ws)
 
   -- a command whose words run out has 36 and no other refusal
-  pub declaring : (named : List ℕ → ℕ) (n : ℕ) → List ℕ → List Variable → (at : ℕ) → List Span → Checked Header
-  declaring named n r vs at [] = cutOff r
-  declaring named n r vs at (kind ∷ []) = cutOff r
-  declaring named n r vs at (kind ∷ width ∷ []) = cutOff r
-  declaring named n r vs at (kind ∷ width ∷ id ∷ []) = cutOff r
-  declaring named n r vs at (kind ∷ width ∷ id ∷ name ∷ []) = cutOff r
-  declaring named n r vs at (kind ∷ width ∷ id ∷ name ∷ last ∷ ws) =
-      andThen (declare named r at vs kind width id name last) (λ us. header named n r us ws)
+  pub declaring : Naming → List ℕ → List Variable → (at : ℕ) → List Span → Checked Header
+  declaring g r vs at [] = cutOff r
+  declaring g r vs at (kind ∷ []) = cutOff r
+  declaring g r vs at (kind ∷ width ∷ []) = cutOff r
+  declaring g r vs at (kind ∷ width ∷ id ∷ []) = cutOff r
+  declaring g r vs at (kind ∷ width ∷ id ∷ name ∷ []) = cutOff r
+  declaring g r vs at (kind ∷ width ∷ id ∷ name ∷ last ∷ ws) =
+      andThen (declare g r at vs kind width id name last) (λ us. header g r us ws)
 
 -- the bytes that a recording may have
 abbrev pub mostBytes : ℕ
@@ -102,11 +102,11 @@ mostBytes = 65_536
 abbrev pub firstOther : List ℕ → ℕ
 firstOther r = runEnd (passes Recorded true) 0 r
 
-unfoldable pub opened : (named : List ℕ → ℕ) (n : ℕ) → List ℕ → Checked Header
-opened named n r =
+unfoldable pub opened : Naming → List ℕ → Checked Header
+opened g r =
     refuseIf (ltb mostBytes (length r)) RecordingLength 0
     (refuseIf (ltb (firstOther r) (length r)) RecordingByte (firstOther r)
-    (header named n r [] (words r 0)))
+    (header g r [] (words r 0)))
 
 -- ---- examples: a command is a whole word; a command whose words run out has 36 and the recording's length
 
@@ -118,6 +118,6 @@ no-command : commandOf (ascii "$end") ≡ Unknown
 unfolding sameBytes
 no-command = refl
 
-cut-off : header (λ w. 0) 1 (ascii "$var 1") [] (words (ascii "$var 1") 0) ≡ stopped HeaderCutOff 6
+cut-off : header (record { named = λ w. 0; count = 1 }) (ascii "$var 1") [] (words (ascii "$var 1") 0) ≡ stopped HeaderCutOff 6
 unfolding header declaring sameBytes tokens filled grown
 cut-off = refl

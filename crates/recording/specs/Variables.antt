@@ -25,6 +25,14 @@ ignored = 32
 abbrev pub clockNamed : List ℕ → Names → List ℕ → ℕ
 clockNamed t ns w = clockOf (numberIn t ns w)
 
+-- what a header is read by: the number of the table's clock with a name, and how many clocks the table names
+pub record Naming : Type 0 where
+  pub named : List ℕ → ℕ
+  pub count : ℕ
+
+abbrev pub namingIn : (table : List ℕ) → Names → Naming
+namingIn t ns = record { named = clockNamed t ns; count = ns .count }
+
 -- the clock of the variable with an id
 unfoldable pub withId : List Variable → List ℕ → Found
 withId [] w = Nothing

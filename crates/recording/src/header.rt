@@ -139,7 +139,7 @@ fn declare(
     words: Words,
 ) -> Declared
     requires { ⌜ x.Indexed variables ⌝ }
-    ensures { λ r. ⌜ (a.declaredAs r ≡ h.declare (v.clockNamed (now (table .entry)) names) (now (recording .entry)) at (x.declared variables) (words .kind) (words .width) (words .id) (words .name) (words .last)) × x.Indexed (r .variables) ⌝ }
+    ensures { λ r. ⌜ (a.declaredAs r ≡ h.declare (v.namingIn (now (table .entry)) names) (now (recording .entry)) at (x.declared variables) (words .kind) (words .width) (words .id) (words .name) (words .last)) × x.Indexed (r .variables) ⌝ }
 {
     if !shaped(recording, words) {
         return undeclared(variables, Limit::VariableShape, at);
@@ -180,7 +180,7 @@ fn declaration(
     command: Span,
 ) -> HeaderRead
     requires { ⌜ x.Indexed variables ⌝ }
-    ensures { λ r. ⌜ a.Declares (v.clockNamed (now (table .entry)) names) (names .count) (now (recording .entry)) (x.declared variables) command r ⌝ }
+    ensures { λ r. ⌜ a.Declares (v.namingIn (now (table .entry)) names) (now (recording .entry)) (x.declared variables) command r ⌝ }
 {
     let words = five_words(recording, command.end);
     if words.last.end <= words.last.start {
@@ -221,7 +221,7 @@ fn close(recording: &[u8], variables: Variables, clocks: usize, command: Span) -
 // The header, command by command.
 fn commands(table: &[u8], names: Names, recording: &[u8]) -> HeaderRead
     requires { ⌜ names .count ≤ 32 ⌝ }
-    ensures { λ r. ⌜ (a.headerAs (now (recording .entry)) r ≡ h.header (v.clockNamed (now (table .entry)) names) (names .count) (now (recording .entry)) [] (h.words (now (recording .entry)) 0)) × x.Indexed (r .variables) ⌝ }
+    ensures { λ r. ⌜ (a.headerAs (now (recording .entry)) r ≡ h.header (v.namingIn (now (table .entry)) names) (now (recording .entry)) [] (h.words (now (recording .entry)) 0)) × x.Indexed (r .variables) ⌝ }
 {
     let mut variables = none();
     let mut at = 0;
@@ -259,7 +259,7 @@ fn commands(table: &[u8], names: Names, recording: &[u8]) -> HeaderRead
 // The header of a recording: its variables, and where the body begins; or the first refusal of 30 to 37.
 pub fn read_header(table: &[u8], names: Names, recording: &[u8]) -> HeaderRead
     requires { ⌜ names .count ≤ 32 ⌝ }
-    ensures { λ r. ⌜ (a.headerAs (now (recording .entry)) r ≡ h.opened (v.clockNamed (now (table .entry)) names) (names .count) (now (recording .entry))) × x.Indexed (r .variables) ⌝ }
+    ensures { λ r. ⌜ (a.headerAs (now (recording .entry)) r ≡ h.opened (v.namingIn (now (table .entry)) names) (now (recording .entry))) × x.Indexed (r .variables) ⌝ }
 {
     if 65536 < recording.len() {
         return refused(none(), Limit::RecordingLength, 0);

@@ -28,7 +28,7 @@ module _ (t r : List ℕ) where
   unfolding withTable
   run-refused n p e = rw e
 
-  pub run-read : table.readTable t .said ≡ table.read → runOf t r ≡ runTable t (tableOf t) r
+  pub run-read : table.readTable t .said ≡ table.read → runOf t r ≡ runTable (tableOf t) (readingBy t r)
   unfolding withTable
   run-read e = rw e
 

@@ -16,23 +16,24 @@ use Rattle.constraint.proofs.ImplicitLaws.{completed-none}
 use Rattle.constraint.proofs.TickSets.{bits-zero}
 use Rattle.judging.proofs.StepLaws.{judged-none}
 use Rattle.grammar.specs.Building.{clocksIn}
+use Rattle.grammar.specs.declared.Table.{Table}
 use Rattle.table.specs.Reader as table
 use Rattle.limit.specs.declared.Check.the-variants.{Passed, Refused as Unread}
 use Rattle.table.specs.declared.TableRead.{TableRead}
 use Rattle.table.proofs.TableVerdict.{every-table-passes}
 use Rattle.limit.specs.declared.Refusal.{Refusal}
-use Rattle.recording.specs.Body.{unmarked, Ending, Reading, endsWith, closing, onward, bodySteps}
+use Rattle.recording.specs.Body.{unmarked, Ending, Reading, endsWith, closing, onward, bodySteps, reading}
 use Rattle.limit.specs.Checked.{passed}
 use Rattle.recording.specs.Answers.{headerAs}
 use Rattle.recording.specs.Header.{words, Header, opened}
 use Rattle.recording.specs.Index.{declared}
-use Rattle.recording.specs.Variables.{clockNamed}
+use Rattle.recording.specs.Variables.{namingIn}
 use Rattle.recording.specs.declared.HeaderRead.{HeaderRead}
 use Rattle.recording.proofs.HeaderLaws.{opened-within}
 use Rattle.recording.specs.declared.Step.{Step}
 use Rattle.run.specs.Complete.{completeAll}
 use Rattle.run.specs.StepByStep.{goesOn, verdictOf, Progress, after, begins, judgeOn, over}
-use Rattle.run.specs.Run.{endingSaid, afterStep, judgeAll, refused, recordsOf, startOf, zeros, ran, runTable, withTable, runOf}
+use Rattle.run.specs.Run.{endingSaid, afterStep, judgeAll, refused, recordsOf, startOf, zeros, ran, completedFor, runTable, withTable, runOf}
 use Rattle.judging.specs.Step.{judged}
 use Rattle.judging.specs.declared.Judged.{Judged}
 use Rattle.judging.specs.declared.Outcome.{Outcome}
@@ -105,16 +106,20 @@ module _ (t r : List ℕ) (q : TableRead) (e : table.told q ≡ table.readTable 
   table-refused f o = rw (← e, o)
 
   module _ (o : q .outcome ≡ Passed) where
-    pub table-read : runOf t r ≡ runTable t (q .table) r
+    is-read : table.readTable t .said ≡ table.read
+    is-read = ap (λ (x : table.Told). x .said) (sym e) ∙ ap table.said o
+
+    is-table : table.readTable t .table ≡ q .table
+    is-table = ap (λ (x : table.Told). x .table) (sym e)
+
+    pub table-read : runOf t r ≡ runTable (q .table) (completedFor (q .table) (reading (namingIn t (q .table .names)) r))
     unfolding withTable
-    table-read = rw (← e, o)
+    table-read = rw is-read (ap (λ (b : Table). runTable b (completedFor b (reading (namingIn t (b .names)) r))) is-table)
 
     pub table-passes : table.Passes (q .table)
-    table-passes =
-        let f : q .table ≡ table.readTable t .table = ap (λ (x : table.Told). x .table) e in
-        rw f (every-table-passes t (ap (λ (x : table.Told). x .said) (sym e) ∙ ap table.said o))
+    table-passes = rw (← is-table) (every-table-passes t is-read)
 
-    module _ (h : HeaderRead) (k : headerAs r h ≡ opened (clockNamed t (q .table .names)) (q .table .names .count) r) where
+    module _ (h : HeaderRead) (k : headerAs r h ≡ opened (namingIn t (q .table .names)) r) where
       pub header-refused : (f : Refusal) → h .outcome ≡ Unread f
           → runOf t r ≡ ran (q .table .count) (record { said = refused (numberOf (f .limit)) (f .place .0); steps = 0; configuration = startOf (q .table) })
       unfolding onward judgeAll completeAll
@@ -129,4 +134,4 @@ module _ (t r : List ℕ) (q : TableRead) (e : table.told q ≡ table.readTable 
         header-within =
             let g : Header = record { variables = declared (h .variables); body = words r (h .body) } in
             let s : headerAs r h ≡ passed g = rw p in
-            opened-within _ _ r g (sym k ∙ s)
+            opened-within _ r g (sym k ∙ s)

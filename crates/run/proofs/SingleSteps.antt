@@ -16,6 +16,7 @@ use Rattle.grammar.specs.declared.Table.{Table}
 use Rattle.table.specs.Reader as table
 use Rattle.table.proofs.TableVerdict.{every-table-passes}
 use Rattle.recording.specs.Body.{Ending}
+use Rattle.recording.specs.Variables.{namingIn}
 use Rattle.recording.specs.declared.Step.{Step}
 use Rattle.recording.proofs.StepTicks.{named-clock, one-ticking, reading-ticking}
 use Rattle.judging.specs.Single.{StepTold, accepted, judgedTold}
@@ -40,7 +41,7 @@ module _ (t r : List ℕ) (e : table.readTable t .said ≡ table.read) where
   all-named before later s q =
       let n = clocksIn b .named in
       let room : n ≤ 32 = omega (arith, every-table-passes t e .clocks) in
-      one-ticking n room before later s (rw q at (reading-ticking n room _ (named-clock t (b .names)) r))
+      one-ticking (namingIn t (b .names)) room before later s (rw q at (reading-ticking (namingIn t (b .names)) room (named-clock t (b .names)) r))
 
   pub steps-recorded : map (asRecorded (clocksIn b .named)) (readingBy t r .steps) ≡ recordedBy t r .steps
   steps-recorded = as-recorded (clocksIn b .named) (recordsOf b) (startOf b .words) (recordedBy t r .steps) all-named

@@ -18,7 +18,7 @@ use Rattle.table.specs.Reader as table
 use Rattle.grammar.specs.Building.{clocksIn}
 use Rattle.grammar.specs.declared.Table.{Table}
 use Rattle.recording.specs.Body.{Ending, ended, refusedAt, Reading, reading}
-use Rattle.recording.specs.Variables.{clockNamed}
+use Rattle.recording.specs.Variables.{namingIn}
 use Rattle.recording.specs.declared.Step.{Step}
 use Rattle.judging.specs.Single.{exampleRecords}
 use Rattle.judging.specs.Step.{judged}
@@ -99,37 +99,32 @@ zeros = record { words = replicate 64 (word (pos 0)) }
 abbrev pub ran : (constraints : ℕ) → Judging → Told
 ran n j = record { said = j .said; steps = j .steps; constraints = n; configuration = j .configuration }
 
--- the recording as read with the names of a table: what was recorded
-abbrev pub recordedOf : (text : List ℕ) → Table → List ℕ → Reading
-recordedOf t b r = reading (clockNamed t (b .names)) (b .names .count) r
-
--- its steps with the ticks of implicit clocks, from the start words on
-abbrev pub completedFor : Table → Reading → Reading
-completedFor b g = record { steps = completeAll (clocksIn b .named) (recordsOf b) (startOf b .words) (g .steps); ending = g .ending }
-
-abbrev pub readingOf : (text : List ℕ) → Table → List ℕ → Reading
-readingOf t b r = completedFor b (recordedOf t b r)
-
-abbrev pub runTable : (text : List ℕ) → Table → List ℕ → Told
-runTable t b r = let g : Reading = readingOf t b r in ran (b .count) (judgeAll (recordsOf b) 0 (startOf b) (g .steps) (g .ending))
-
--- a refused table: no records, 64 zero words, 0 steps
-unfoldable pub withTable : (text : List ℕ) → table.Said → Table → List ℕ → Told
-withTable t table.read b r = runTable t b r
-withTable t (table.refused n p) b r = record { said = refused n p; steps = 0; constraints = 0; configuration = zeros }
-
-abbrev pub runOf : (table recording : List ℕ) → Told
-runOf t r = withTable t (table.readTable t .said) (table.readTable t .table) r
-
--- the table that a text is read as, and the recording as read with its names, as recorded and with completed steps
+-- the table that a text is read as
 abbrev pub tableOf : List ℕ → Table
 tableOf t = table.readTable t .table
 
+-- the recording as read with the table's names: what was recorded
 abbrev pub recordedBy : (table recording : List ℕ) → Reading
-recordedBy t r = recordedOf t (tableOf t) r
+recordedBy t r = reading (namingIn t (tableOf t .names)) r
+
+-- the steps of a reading with the ticks of implicit clocks, from the start words on
+abbrev pub completedFor : Table → Reading → Reading
+completedFor b g = record { steps = completeAll (clocksIn b .named) (recordsOf b) (startOf b .words) (g .steps); ending = g .ending }
 
 abbrev pub readingBy : (table recording : List ℕ) → Reading
-readingBy t r = readingOf t (tableOf t) r
+readingBy t r = completedFor (tableOf t) (recordedBy t r)
+
+-- the run of what was read by a table
+abbrev pub runTable : Table → Reading → Told
+runTable b g = ran (b .count) (judgeAll (recordsOf b) 0 (startOf b) (g .steps) (g .ending))
+
+-- a refused table: no records, 64 zero words, 0 steps
+unfoldable pub withTable : table.Said → (run : Told) → Told
+withTable table.read d = d
+withTable (table.refused n p) d = record { said = refused n p; steps = 0; constraints = 0; configuration = zeros }
+
+abbrev pub runOf : (table recording : List ℕ) → Told
+runOf t r = withTable (table.readTable t .said) (runTable (tableOf t) (readingBy t r))
 
 -- ---- document 01's example: #0 req; #3; #5 ack and req; #8 ack and done; #9 req and ack. It prints `violated 1 9`, `steps 4`, `config 0 0`
 

@@ -19,7 +19,7 @@ use Rattle.grammar.specs.declared.Found.the-variants.{At}
 use Rattle.recording.specs.BeforeWords.{recorded}
 use Rattle.recording.specs.Body.{unmarked, closing, onward, reading}
 use Rattle.recording.specs.Header.{words, opened}
-use Rattle.recording.specs.Variables.{Variable, withId, hasClock, clockAgain, allDeclared}
+use Rattle.recording.specs.Variables.{Variable, Naming, withId, hasClock, clockAgain, allDeclared}
 use Rattle.recording.proofs.BeforeWords.{before-words}
 use Rattle.written.specs.Claim.{variables, asRead, Each, Apart, graphic, Graphic, is-0, is-1, is-x, Writable, WrittenIsRead, byName}
 use Rattle.written.specs.Layout.{WrittenVariable, WrittenTick, WrittenStep, line, texts, declarationWords, declaration, definitionsEnd, mark, tickAt, variableAt, step, header, written, two, three}
@@ -93,12 +93,12 @@ none-yet k = go (eqb k 32)
     go false = refl
 
 -- ---- the whole
-module _ (named : List ℕ → ℕ) (n : ℕ) (vs : List WrittenVariable) (ss : List WrittenStep) (ok : Writable named n vs ss) where
+module _ (g : Naming) (vs : List WrittenVariable) (ss : List WrittenStep) (ok : Writable g vs ss) where
   abbrev text : List ℕ
   text = written vs ss
 
   abbrev us : List Variable
-  us = variables named vs
+  us = variables (g .named) vs
 
   abbrev body : List ℕ
   body = texts (step vs) ss
@@ -113,14 +113,14 @@ module _ (named : List ℕ → ℕ) (n : ℕ) (vs : List WrittenVariable) (ss : 
   ticks : Each (λ s. Each Ticks (s .ticks)) ss
   ticks = each-with ss (λ s p h. each-with (s .ticks) (λ i u e. (plain u, e)) p h) (ok .values) (ok .declared)
 
-  known : (i : WrittenTick) → Ticks i → Known named vs us text i
+  known : (i : WrittenTick) → Ticks i → Known (g .named) vs us text i
   known i h =
       let v = variableAt vs (i .variable) in
       let short : length (v .id) ≤ 4 = each-at (record { id = []; name = [] }) (λ u. length (u .id) ≤ 4) vs (i .variable) (ok .short) (h .1) in
       record {
         plain = h .0;
         word = graphic-word (v .id) (id-at (i .variable) (h .1));
-        found = rw (le-leb (length (v .id)) 4 short) (found-at named vs (i .variable) (h .1) (ok .distinct));
+        found = rw (le-leb (length (v .id)) 4 short) (found-at (g .named) vs (i .variable) (h .1) (ok .distinct));
       }
 
   step-recorded : (s : WrittenStep) → Each Ticks (s .ticks) → Recorded (step vs s)
@@ -146,19 +146,19 @@ module _ (named : List ℕ → ℕ) (n : ℕ) (vs : List WrittenVariable) (ss : 
   body-left : drop (length (header vs)) text ≡ body ++ []
   body-left = drop-at (header vs) body (length (header vs)) refl ∙ sym (append-nil body)
 
-  header-read : opened named n text ≡ passed (record { variables = us; body = words text (length (header vs)) })
+  header-read : opened g text ≡ passed (record { variables = us; body = words text (length (header vs)) })
   header-read =
-      before-words .header named n text (ok .fits) text-recorded
-      ∙ declarations-read named n text vs [] 0 (definitionsEnd ++ body) declarations-left (ok .ids) (ok .short) (ok .names) (ok .distinct) (ok .once)
-      (each-all vs (λ v. unfold withId in refl)) (each-all vs (λ v. none-yet (named (v .name)))) (omega (arith, ok .few))
-      ∙ end-read named n text us (0 + length (texts declaration vs)) body end-left (all-clocks us n (ok .covers))
+      before-words .header g text (ok .fits) text-recorded
+      ∙ declarations-read g text vs [] 0 (definitionsEnd ++ body) declarations-left (ok .ids) (ok .short) (ok .names) (ok .distinct) (ok .once)
+      (each-all vs (λ v. unfold withId in refl)) (each-all vs (λ v. none-yet (g .named (v .name)))) (omega (arith, ok .few))
+      ∙ end-read g text us (0 + length (texts declaration vs)) body end-left (all-clocks us (g .count) (ok .covers))
       ∙ ap (λ (i : ℕ). passed (record { variables = us; body = words text i })) body-at
 
-  is-read : reading named n text ≡ asRead named vs ss
+  is-read : reading g text ≡ asRead (g .named) vs ss
   unfolding onward closing
   is-read =
       rw header-read
-      (steps-read named vs us text ss unmarked (length (header vs)) body-left (ok .times) (each-all ss (λ s. refl)) (ok .rise)
+      (steps-read (g .named) vs us text ss unmarked (length (header vs)) body-left (ok .times) (each-all ss (λ s. refl)) (ok .rise)
       (each-to ss (λ s e. each-to (s .ticks) known e) ticks) (ok .single))
 
 pub written-is-read : WrittenIsRead
@@ -175,7 +175,7 @@ covered (suc (suc k)) h = absurd (omega arith)
 two-ids : ascii "!" ≡ ascii "\"\"" → ⊥
 two-ids e = let z : _≡_ {A = ℕ} 1 2 = ap (λ (l : List ℕ). length l) e in omega arith
 
-pub three-may-be-written : Writable byName 2 two three
+pub three-may-be-written : Writable (record { named = byName; count = 2 }) two three
 unfolding Each Apart allBytes sameBytes line texts digits digitsOf
 three-may-be-written = record {
   ids = (record { some = omega arith; bytes = refl }, (record { some = omega arith; bytes = refl }, tt));

@@ -16,7 +16,7 @@ use Rattle.text.specs.declared.Span.{Span}
 use Rattle.text.proofs.Bytes.{all-to, differ-same}
 use Rattle.grammar.specs.declared.Found.the-variants.{At, Nothing}
 use Rattle.recording.specs.Header.{words, says, commandOf, shaped, header, declaring}
-use Rattle.recording.specs.Variables.{Variable, withId, lookUp, isDeclared, hasClock, clockAgain, allDeclared}
+use Rattle.recording.specs.Variables.{Variable, Naming, withId, lookUp, isDeclared, hasClock, clockAgain, allDeclared}
 use Rattle.recording.specs.declared.Command.the-variants.{Declaration, Definitions}
 use Rattle.recording.proofs.HeaderLaws.{declare-more, close-all}
 use Rattle.written.specs.Claim.{variables, Each, Apart, graphic, Graphic, Differ}
@@ -105,11 +105,11 @@ look-none us w e = go (leb (length w) 4)
     go false = refl
 
 -- ---- declarations
-module _ (named : List ℕ → ℕ) (n : ℕ) (r : List ℕ) where
+module _ (g : Naming) (r : List ℕ) where
   -- six words that declare a variable
   module _ (us : List Variable) (v : WrittenVariable) (a b c d e f : Span) (later : List Span) (q : map (bytesOf r) (a ∷ b ∷ c ∷ d ∷ e ∷ f ∷ []) ≡ ascii "$var" ∷ declarationWords v) where
-    declares : length (v .id) ≤ 4 → withId us (v .id) ≡ Nothing → clockAgain us (named (v .name)) ≡ false → length us < 128
-        → header named n r us (a ∷ b ∷ c ∷ d ∷ e ∷ f ∷ later) ≡ header named n r (us ++ variables named (v ∷ [])) later
+    declares : length (v .id) ≤ 4 → withId us (v .id) ≡ Nothing → clockAgain us (g .named (v .name)) ≡ false → length us < 128
+        → header g r us (a ∷ b ∷ c ∷ d ∷ e ∷ f ∷ later) ≡ header g r (us ++ variables (g .named) (v ∷ [])) later
     unfolding header declaring andThen
     declares short new once few =
         let qa : bytesOf r a ≡ ascii "$var" = cc in
@@ -119,42 +119,42 @@ module _ (named : List ℕ → ℕ) (n : ℕ) (r : List ℕ) where
         let qe : bytesOf r e ≡ v .name = cc in
         let qf : bytesOf r f ≡ ascii "$end" = cc in
         let s : shaped r b c d f ≡ true = rw (qb, qc, qd, qf, says-event, says-one, says-end, le-leb (length (v .id)) 4 short) in
-        let t : (isDeclared (lookUp us (bytesOf r d)) || clockAgain us (named (bytesOf r e))) ≡ false = rw (qd, qe, look-none us (v .id) new, once) in
-        rw (qa, is-var, declare-more named r (a .start) us b c d e f s t few, qd, qe)
+        let t : (isDeclared (lookUp us (bytesOf r d)) || clockAgain us (g .named (bytesOf r e))) ≡ false = rw (qd, qe, look-none us (v .id) new, once) in
+        rw (qa, is-var, declare-more g r (a .start) us b c d e f s t few, qd, qe)
 
   -- us are the variables so far, which have neither the ids nor the clocks of those that follow
   pub declarations-read : (vs : List WrittenVariable) (us : List Variable) (at : ℕ) (s : List ℕ) → drop at r ≡ texts declaration vs ++ s
       → Each (λ v. Graphic (v .id)) vs → Each (λ v. length (v .id) ≤ 4) vs → Each (λ v. Graphic (v .name)) vs
-      → Apart (λ u v. u .id ≡ v .id → ⊥) vs → Apart (λ u v. Differ (named (u .name)) (named (v .name))) vs
-      → Each (λ v. withId us (v .id) ≡ Nothing) vs → Each (λ v. clockAgain us (named (v .name)) ≡ false) vs → length us + length vs ≤ 128
-      → header named n r us (words r at) ≡ header named n r (us ++ variables named vs) (words r (at + length (texts declaration vs)))
+      → Apart (λ u v. u .id ≡ v .id → ⊥) vs → Apart (λ u v. Differ (g .named (u .name)) (g .named (v .name))) vs
+      → Each (λ v. withId us (v .id) ≡ Nothing) vs → Each (λ v. clockAgain us (g .named (v .name)) ≡ false) vs → length us + length vs ≤ 128
+      → header g r us (words r at) ≡ header g r (us ++ variables (g .named) vs) (words r (at + length (texts declaration vs)))
   unfolding texts Each Apart
   declarations-read [] us at s d ids sh nm di on new once few = let z : at + 0 ≡ at = omega arith in rw (z, append-nil us)
   declarations-read (v ∷ vs) us at s d ids sh nm di on new once few =
-      let u : Variable = record { id = v .id; clock = named (v .name) } in
+      let u : Variable = record { id = v .id; clock = g .named (v .name) } in
       let e = first-text r at declaration v vs s d in
       let m : length (us ++ u ∷ []) + length vs ≤ 128 = omega (arith, length-append us (u ∷ [])) in
-      ap (header named n r us) (line-words r (declarationWords v) (ascii "$var") at (texts declaration vs ++ s) (declaration-words v (ids .0) (nm .0)) e)
+      ap (header g r us) (line-words r (declarationWords v) (ascii "$var") at (texts declaration vs ++ s) (declaration-words v (ids .0) (nm .0)) e)
       ∙ declares us v _ _ _ _ _ _ (words r (at + length (declaration v))) (line-bytes r (declarationWords v) (ascii "$var") at (texts declaration vs ++ s) e) (sh .0) (new .0) (once .0) (omega arith)
       ∙ declarations-read vs (us ++ u ∷ []) (at + length (declaration v)) s (other-texts r at declaration v vs s d) (ids .1) (sh .1) (nm .1) (di .1) (on .1)
       (each-with vs (λ w p k. with-more us u (w .id) p (differ-same (v .id) (w .id) k)) (new .1) (di .0))
-      (each-with vs (λ w p k. again-more us u (named (w .name)) p k) (once .1) (on .0))
+      (each-with vs (λ w p k. again-more us u (g .named (w .name)) p k) (once .1) (on .0))
       m
-      ∙ ap (λ (j : ℕ). header named n r ((us ++ u ∷ []) ++ variables named vs) (words r j)) (behind-texts r at declaration v vs s d)
-      ∙ ap (λ (x : List Variable). header named n r x (words r (at + length (texts declaration (v ∷ vs))))) (append-assoc us (u ∷ []) (variables named vs))
+      ∙ ap (λ (j : ℕ). header g r ((us ++ u ∷ []) ++ variables (g .named) vs) (words r j)) (behind-texts r at declaration v vs s d)
+      ∙ ap (λ (x : List Variable). header g r x (words r (at + length (texts declaration (v ∷ vs))))) (append-assoc us (u ∷ []) (variables (g .named) vs))
 
   -- the end of the header
-  closes : (us : List Variable) (a b : Span) (later : List Span) → map (bytesOf r) (a ∷ b ∷ []) ≡ ascii "$enddefinitions" ∷ ascii "$end" ∷ [] → allDeclared us n ≡ true
-      → header named n r us (a ∷ b ∷ later) ≡ passed (record { variables = us; body = later })
+  closes : (us : List Variable) (a b : Span) (later : List Span) → map (bytesOf r) (a ∷ b ∷ []) ≡ ascii "$enddefinitions" ∷ ascii "$end" ∷ [] → allDeclared us (g .count) ≡ true
+      → header g r us (a ∷ b ∷ later) ≡ passed (record { variables = us; body = later })
   unfolding header
   closes us a b later q k =
       let qa : bytesOf r a ≡ ascii "$enddefinitions" = cc in
       let qb : bytesOf r b ≡ ascii "$end" = cc in
       let s : says (bytesOf r b) "$end" ≡ true = rw (qb, says-end) in
-      rw (qa, is-definitions) (close-all n r (a .start) us (b ∷ later) b later refl s k)
+      rw (qa, is-definitions) (close-all (g .count) r (a .start) us (b ∷ later) b later refl s k)
 
-  pub end-read : (us : List Variable) (at : ℕ) (s : List ℕ) → drop at r ≡ definitionsEnd ++ s → allDeclared us n ≡ true
-      → header named n r us (words r at) ≡ passed (record { variables = us; body = words r (at + length definitionsEnd) })
+  pub end-read : (us : List Variable) (at : ℕ) (s : List ℕ) → drop at r ≡ definitionsEnd ++ s → allDeclared us (g .count) ≡ true
+      → header g r us (words r at) ≡ passed (record { variables = us; body = words r (at + length definitionsEnd) })
   end-read us at s d k =
-      ap (header named n r us) (line-words r (ascii "$end" ∷ []) (ascii "$enddefinitions") at s end-words d)
+      ap (header g r us) (line-words r (ascii "$end" ∷ []) (ascii "$enddefinitions") at s end-words d)
       ∙ closes us _ _ (words r (at + length definitionsEnd)) (line-bytes r (ascii "$end" ∷ []) (ascii "$enddefinitions") at s d) k

@@ -1,5 +1,5 @@
 -- The claim: a recording that may be written is read as the steps that it was written from, with these ticks and times, and ends with the
--- end. It is read with a table of n clocks, and named gives the number of the clock with a name. Assumes nothing.
+-- end. g is what the table says of names. Assumes nothing.
 use mathlib.Core.Path.{_≡_, refl}
 use mathlib.Core.Bool.{Bool, true, cond, _&&_}
 use mathlib.Core.List.{List, [], _∷_, map}
@@ -11,7 +11,7 @@ use Rattle.text.specs.Ascii.{ascii}
 use Rattle.text.specs.Bytes.{allBytes, sameBytes}
 use Rattle.text.specs.Digits.{digits, digitsOf}
 use Rattle.recording.specs.Body.{Reading, ended, reading}
-use Rattle.recording.specs.Variables.{Variable, hasClock, ignored}
+use Rattle.recording.specs.Variables.{Variable, Naming, hasClock, ignored}
 use Rattle.recording.specs.declared.Step.{Step}
 use Rattle.written.specs.Layout.{WrittenVariable, WrittenTick, WrittenStep, line, texts, variableAt, step, header, written, two, three}
 
@@ -74,15 +74,15 @@ pub data Value : ℕ → Type 0 where
 abbrev pub Differ : ℕ → ℕ → Type 0
 Differ j k = j ≡ k → j ≡ ignored
 
-pub record Writable (named : List ℕ → ℕ) (n : ℕ) (vs : List WrittenVariable) (ss : List WrittenStep) : Type 0 where
+pub record Writable (g : Naming) (vs : List WrittenVariable) (ss : List WrittenStep) : Type 0 where
   -- ids have 1 to 4 bytes and are distinct
   pub ids : Each (λ v. Graphic (v .id)) vs
   pub short : Each (λ v. length (v .id) ≤ 4) vs
   pub distinct : Apart (λ u v. u .id ≡ v .id → ⊥) vs
   -- the names cover the table's clocks, once each
   pub names : Each (λ v. Graphic (v .name)) vs
-  pub once : Apart (λ u v. Differ (named (u .name)) (named (v .name))) vs
-  pub covers : (k : ℕ) → k < n → hasClock (variables named vs) k ≡ true
+  pub once : Apart (λ u v. Differ (g .named (u .name)) (g .named (v .name))) vs
+  pub covers : (k : ℕ) → k < g .count → hasClock (variables (g .named) vs) k ≡ true
   pub few : length vs ≤ 128
   -- times rise
   pub times : Each (λ s. s .time < 2 ^ 64) ss
@@ -90,11 +90,11 @@ pub record Writable (named : List ℕ → ℕ) (n : ℕ) (vs : List WrittenVaria
   -- variables tick, with any of the values, no clock of the table twice in a step
   pub values : Each (λ s. Each (λ i. Value (i .value)) (s .ticks)) ss
   pub declared : Each (λ s. Each (λ i. i .variable < length vs) (s .ticks)) ss
-  pub single : Each (λ s. Apart (λ i j. Differ (clockOf named vs i) (clockOf named vs j)) (s .ticks)) ss
+  pub single : Each (λ s. Apart (λ i j. Differ (clockOf (g .named) vs i) (clockOf (g .named) vs j)) (s .ticks)) ss
   pub fits : length (written vs ss) ≤ 65_536
 
 abbrev pub WrittenIsRead : Type 0
-WrittenIsRead = (named : List ℕ → ℕ) (n : ℕ) (vs : List WrittenVariable) (ss : List WrittenStep) → Writable named n vs ss → reading named n (written vs ss) ≡ asRead named vs ss
+WrittenIsRead = (g : Naming) (vs : List WrittenVariable) (ss : List WrittenStep) → Writable g vs ss → reading g (written vs ss) ≡ asRead (g .named) vs ss
 
 -- ---- the example of Layout, with a table of the two clocks
 

@@ -8,7 +8,7 @@ use denote.Ref.{now}
 use lib.ListN.{length}
 use Rattle.text.specs.Split.{bytesOf}
 use Rattle.recording.specs.Header.{words, commandOf, header}
-use Rattle.recording.specs.Variables.{clockNamed}
+use Rattle.recording.specs.Variables.{namingIn}
 use Rattle.recording.specs.Index.{Indexed, declared}
 use Rattle.recording.specs.declared.Command.{Command}
 use Rattle.recording.proofs.HeaderLaws.{within, cut-done, skipped-on, declared-stop, declared-on, definitions-done, unknown-stop}
@@ -19,8 +19,8 @@ use Rattle.recording.proofs.header.commands.Tie as tie
 abbrev Inv-loop : tie.InvT-loop
 Inv-loop table names recording variables₀ at₀ variables at =
     Indexed variables
-    × (header (clockNamed table names) (names .count) recording (declared variables) (words recording at)
-    ≡ header (clockNamed table names) (names .count) recording [] (words recording 0))
+    × (header (namingIn table names) recording (declared variables) (words recording at)
+    ≡ header (namingIn table names) recording [] (words recording 0))
 
 abbrev μ-loop : tie.MeasureT-loop
 μ-loop table names recording variables₀ at₀ variables at = length recording - at
@@ -38,7 +38,7 @@ returns c =
     let w = c .before .before .before in
     let i = w .before .loop .inv in
     let f = c .refused .ensures in
-    (cut-done _ _ _ _ _ (w .next-word .result) (w .next-word .ensures) _ (i .1) (c .before .if1 .taken) _ _ (f .0), rw (f .1) (i .0))
+    (cut-done _ _ _ _ (w .next-word .result) (w .next-word .ensures) _ (i .1) (c .before .if1 .taken) _ _ (f .0), rw (f .1) (i .0))
 
 loop-less : tie.Need-loop-less Inv-loop μ-loop
 loop-less c =
@@ -53,7 +53,7 @@ loop-again c =
     let e = k .before .before in
     let w = e .before .before in
     let i = w .before .loop .inv in
-    (i .0, skipped-on _ _ _ _ _ (w .next-word .result) (w .next-word .ensures) _ (i .1) (e .if1 .left) (opened k _ (c .before .enum-told .given .1)) _ (c .after-end .ensures))
+    (i .0, skipped-on _ _ _ _ (w .next-word .result) (w .next-word .ensures) _ (i .1) (e .if1 .left) (opened k _ (c .before .enum-told .given .1)) _ (c .after-end .ensures))
 
 returns-2 : tie.Need-returns-2 Inv-loop μ-loop
 returns-2 c =
@@ -61,7 +61,7 @@ returns-2 c =
     let k = d .before .before .before in
     let e = k .before .before in
     let w = e .before .before in
-    (declared-stop _ _ _ _ _ (w .next-word .result) (w .next-word .ensures) _ (w .before .loop .inv .1) (e .if1 .left) (opened k _ (d .before .enum-told2 .given .1)) (d .declaration .result) (d .declaration .ensures) _ (c .enum-told3 .given .1), d .declaration .ensures .indexed)
+    (declared-stop _ _ _ _ (w .next-word .result) (w .next-word .ensures) _ (w .before .loop .inv .1) (e .if1 .left) (opened k _ (d .before .enum-told2 .given .1)) (d .declaration .result) (d .declaration .ensures) _ (c .enum-told3 .given .1), d .declaration .ensures .indexed)
 
 loop-less-2 : tie.Need-loop-less-2 Inv-loop μ-loop
 loop-less-2 c =
@@ -77,7 +77,7 @@ loop-again-2 c =
     let k = d .before .before .before in
     let e = k .before .before in
     let w = e .before .before in
-    (d .declaration .ensures .indexed, declared-on _ _ _ _ _ (w .next-word .result) (w .next-word .ensures) _ (w .before .loop .inv .1) (e .if1 .left) (opened k _ (d .before .enum-told2 .given .1)) (d .declaration .result) (d .declaration .ensures) (c .before .enum-told4 .given .1))
+    (d .declaration .ensures .indexed, declared-on _ _ _ _ (w .next-word .result) (w .next-word .ensures) _ (w .before .loop .inv .1) (e .if1 .left) (opened k _ (d .before .enum-told2 .given .1)) (d .declaration .result) (d .declaration .ensures) (c .before .enum-told4 .given .1))
 
 returns-3 : tie.Need-returns-3 Inv-loop μ-loop
 returns-3 c =
@@ -86,7 +86,7 @@ returns-3 c =
     let w = e .before .before in
     let i = w .before .loop .inv in
     let d = c .close .ensures in
-    (definitions-done _ _ _ _ _ (w .next-word .result) (w .next-word .ensures) _ (i .1) (e .if1 .left) (opened k _ (c .before .enum-told5 .given .1)) _ (d .0), rw (d .1) (i .0))
+    (definitions-done _ _ _ _ (w .next-word .result) (w .next-word .ensures) _ (i .1) (e .if1 .left) (opened k _ (c .before .enum-told5 .given .1)) _ (d .0), rw (d .1) (i .0))
 
 returns-4 : tie.Need-returns-4 Inv-loop μ-loop
 returns-4 c =
@@ -95,7 +95,7 @@ returns-4 c =
     let w = e .before .before in
     let i = w .before .loop .inv in
     let f = c .refused2 .ensures in
-    (unknown-stop _ _ _ _ _ (w .next-word .result) (w .next-word .ensures) _ (i .1) (e .if1 .left) (opened k _ (c .before .enum-told6 .given .1)) _ _ (f .0), rw (f .1) (i .0))
+    (unknown-stop _ _ _ _ (w .next-word .result) (w .next-word .ensures) _ (i .1) (e .if1 .left) (opened k _ (c .before .enum-told6 .given .1)) _ _ (f .0), rw (f .1) (i .0))
 
 pub commands-spec : {M : Type 1} → statement M
 commands-spec =

@@ -9,7 +9,7 @@ returns c =
     let f = c .refused .ensures in
     let w = c .before .before .before in
     record {
-      says = five-stop _ _ (w .five-words .result) (w .five-words .ensures) _ _ _ _ (c .before .if1 .taken) _ _ (f .0);
+      says = five-stop _ _ (w .five-words .result) (w .five-words .ensures) _ _ _ (c .before .if1 .taken) _ _ (f .0);
       indexed = rw (f .1) (w .before .before .before .pre);
       forward = λ p. absurd (not-passed _ _ (f .0) p);
     }
@@ -20,7 +20,7 @@ returns-2 c =
     let e = c .before .before in
     let w = e .before .before .five-words in
     record {
-      says = five-on _ _ (w .result) (w .ensures) _ _ _ _ (e .if1 .left) (d .result) (d .ensures .0);
+      says = five-on _ _ (w .result) (w .ensures) _ _ _ (e .if1 .left) (d .result) (d .ensures .0);
       indexed = d .ensures .1;
       forward = λ p. five-forward _ _ (w .result) (w .ensures) (e .if1 .left);
     }
