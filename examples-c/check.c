@@ -1,5 +1,6 @@
 /* check TABLE RECORDING: judges a recording by a table, both named files, and prints three lines: the verdict, the number of accepted
- * steps, and a word for each constraint. A file that cannot be opened or read counts as empty. */
+ * steps, and a word for each constraint. A file that cannot be opened or read counts as empty. A variable of the recording whose name the
+ * table lacks is refused, with 38; with CCSL_UNKNOWN_IGNORED it would be ignored. */
 #include <inttypes.h>
 #include <stdio.h>
 
@@ -56,7 +57,8 @@ int main(int argc, char **argv)
     size_t table_length = read_file(argv[1], table, sizeof table);
     size_t recording_length = read_file(argv[2], recording, sizeof recording);
 
-    uint32_t status = ccsl_run(table, table_length, recording, recording_length, answer, CCSL_RUN_ANSWER, words, CCSL_WORDS);
+    uint32_t status = ccsl_run(table, table_length, recording, recording_length, CCSL_UNKNOWN_REFUSED, answer, CCSL_RUN_ANSWER, words,
+                               CCSL_WORDS);
     if (status != CCSL_DONE) {
         fprintf(stderr, "check: ccsl_run returned %" PRIu32 "\n", status);
         return 1;

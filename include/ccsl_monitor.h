@@ -2,7 +2,7 @@
  * contract (crates/monitor_c). Numbers come in and go out in lists, which the caller owns.
  *
  * Every call returns a status. CCSL_DONE: the answer was written, and the other lists that the call writes. Any other: a list that was
- * handed in has not the shape that the call asks for, and nothing was written.
+ * handed in has not the shape that the call asks for, or the choice of a run is none of those below, and nothing was written.
  *
  * The library keeps nothing between calls and has no state of its own, so that calls may run at once from several threads. Two calls at
  * once may read the same list; one that a call writes belongs to that call alone.
@@ -11,7 +11,7 @@
  * elements. Of a list that is longer than the call needs, the rest is left alone.
  *
  * A table's text and a recording may hold any bytes, and a list any numbers: what breaks a limit is refused, with the limit's number and
- * place (docs/refusals.md). Only a record's kind has to be one of those below. */
+ * place (docs/refusals.md). Only a record's kind and the choice of a run have to be among those below. */
 #ifndef CCSL_MONITOR_H
 #define CCSL_MONITOR_H
 
@@ -31,7 +31,8 @@ enum {
     CCSL_NAMES_SHORT = 4,    /* ccsl_read_table: `names` has fewer than CCSL_CLOCKS * 2 numbers */
     CCSL_RECORDS_RAGGED = 5, /* the calls on records: the numbers of `records` do not come in sixes */
     CCSL_KIND_UNKNOWN = 6,   /* the same calls: a record's kind is above CCSL_UPTO */
-    CCSL_ORDER_SHORT = 7     /* ccsl_definition_order: `order` has fewer than CCSL_CLOCKS numbers */
+    CCSL_ORDER_SHORT = 7,    /* ccsl_definition_order: `order` has fewer than CCSL_CLOCKS numbers */
+    CCSL_CHOICE_INVALID = 8  /* ccsl_run: `unknown` is none of the two choices */
 };
 
 /* The first number of every answer. */
@@ -81,13 +82,22 @@ enum {
  * the ticks of implicit clocks, in the order of the records, so that their definitions hold. The calls on records are told how many clocks are
  * named, and how many there are, named and implicit together: `named` and `clocks`. */
 
+/* What becomes of a variable of the recording whose name the table lacks. */
+enum {
+    CCSL_UNKNOWN_REFUSED = 0, /* the run is refused, with 38 */
+    CCSL_UNKNOWN_IGNORED = 1  /* the variable is ignored */
+};
+
 /* Judges a recording by a table.
+ * unknown, the choice for variables whose names the table lacks: 0, CCSL_UNKNOWN_REFUSED, is the default, so that a misspelt name is told.
+ * The place of 38 is the offset of the variable's `$var`; no step was read then, and the words are the start words.
  * answer, 5 numbers: CCSL_ACCEPTED, 0, 0; or CCSL_VIOLATED, the table line, the recorded time; or CCSL_REFUSED, the limit's number, the
  * place; then the number of accepted steps and the number of constraints, both 0 where the table was refused.
  * words, 64 words: the configuration after the accepted steps, all 0 where the table was refused.
- * CCSL_ANSWER_SHORT, CCSL_WORDS_SHORT. */
+ * CCSL_ANSWER_SHORT, CCSL_WORDS_SHORT, CCSL_CHOICE_INVALID. */
 uint32_t ccsl_run(const uint8_t *table, size_t table_len,
                   const uint8_t *recording, size_t recording_len,
+                  uint32_t unknown,
                   uint64_t *answer, size_t answer_len,
                   int64_t *words, size_t words_len);
 

@@ -4,7 +4,7 @@ ghost use Rattle.io.specs.Counts.{Counts};
 
 // Says on standard error what became of a file.
 fn warn(name: &[u8], what: &[u8]) {
-    io::write_all(STDERR_FILENO, b"ccsl_monitor: ");
+    io::write_all(STDERR_FILENO, b"ccsl: ");
     io::write_all(STDERR_FILENO, name);
     io::write_all(STDERR_FILENO, what);
 }

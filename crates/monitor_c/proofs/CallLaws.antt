@@ -13,8 +13,8 @@ use Rattle.table.specs.Reader.{readTable}
 use Rattle.run.specs.Run.{runOf}
 use Rattle.order.specs.Order.{orderOf}
 use Rattle.monitor_c.specs.declared.AnswerNumbers.{AnswerNumbers}
-use Rattle.monitor_c.specs.Calls.{written, answerShort, wordsShort, recordsShort, namesShort, recordsRagged, kindUnknown, Left, left, runLeft, runInto, tableLeft, readLeft, readInto, onRecords, answerLeft, placeLeft, placeInto, orderShort, orderLeft, orderedLeft, orderInto}
-use Rattle.monitor_c.specs.Numbers.{clocksOf, recordsOf, kindsKnown, configurationOf, answerAnd}
+use Rattle.monitor_c.specs.Calls.{written, answerShort, wordsShort, recordsShort, namesShort, recordsRagged, kindUnknown, Left, left, runLeft, runInto, tableLeft, readLeft, readInto, onRecords, answerLeft, placeLeft, placeInto, orderShort, orderLeft, orderedLeft, orderInto, choiceInvalid}
+use Rattle.monitor_c.specs.Numbers.{unknownOf, clocksOf, recordsOf, kindsKnown, configurationOf, answerAnd}
 use Rattle.monitor_c.proofs.ListLaws.{sets-append, sets-written}
 
 -- an answer of three numbers, with others stored behind it
@@ -26,18 +26,22 @@ stored-behind t ns out room =
 
 -- ---- ccsl_run
 
-module _ (t r out : List ℕ) (ws : List ℤ) where
-  pub run-answer-short : length out < 5 → left answerShort out ws ≡ runInto t r out ws
+module _ (t r : List ℕ) (u : ℕ) (out : List ℕ) (ws : List ℤ) where
+  pub run-answer-short : length out < 5 → left answerShort out ws ≡ runInto t r u out ws
   unfolding runInto
   run-answer-short a = rw (lt-ltb (length out) 5 a) refl
 
-  pub run-words-short : 5 ≤ length out → length ws < 64 → left wordsShort out ws ≡ runInto t r out ws
+  pub run-words-short : 5 ≤ length out → length ws < 64 → left wordsShort out ws ≡ runInto t r u out ws
   unfolding runInto
   run-words-short a w = rw (le-ltb (length out) 5 a, lt-ltb (length ws) 64 w) refl
 
-  pub run-done : 5 ≤ length out → 64 ≤ length ws → runLeft (runOf t r) out ws ≡ runInto t r out ws
+  pub run-choice-invalid : 5 ≤ length out → 64 ≤ length ws → 1 < u → left choiceInvalid out ws ≡ runInto t r u out ws
   unfolding runInto
-  run-done a w = rw (le-ltb (length out) 5 a, le-ltb (length ws) 64 w) refl
+  run-choice-invalid a w c = rw (le-ltb (length out) 5 a, le-ltb (length ws) 64 w, lt-ltb 1 u c) refl
+
+  pub run-done : 5 ≤ length out → 64 ≤ length ws → u ≤ 1 → runLeft (runOf t r (unknownOf u)) out ws ≡ runInto t r u out ws
+  unfolding runInto
+  run-done a w c = rw (le-ltb (length out) 5 a, le-ltb (length ws) 64 w, le-ltb 1 u c) refl
 
 -- ---- ccsl_read_table
 

@@ -14,7 +14,7 @@ use Rattle.run.specs.Run as run
 use Rattle.judging.specs.Single as single
 use Rattle.lent.specs.Start as start
 use Rattle.order.specs.Order as order
-use Rattle.monitor_c.specs.Numbers.{clocksOf, recordsOf, kindsKnown, recordNumbers, nameNumbers, configurationOf, wordNumbers, ofRun, ofTable, ofStart, ofStep, ofPlace, ofOrder, answerAnd}
+use Rattle.monitor_c.specs.Numbers.{unknownIgnored, unknownOf, clocksOf, recordsOf, kindsKnown, recordNumbers, nameNumbers, configurationOf, wordNumbers, ofRun, ofTable, ofStart, ofStep, ofPlace, ofOrder, answerAnd}
 use Rattle.monitor_c.specs.declared.AnswerNumbers.{AnswerNumbers}
 
 -- numbers, in the place of the first of a list; the rest is left alone
@@ -47,6 +47,9 @@ kindUnknown = 6
 abbrev pub orderShort : ℕ
 orderShort = 7
 
+abbrev pub choiceInvalid : ℕ
+choiceInvalid = 8
+
 -- the numbers of `records` do not come in rows
 abbrev pub ragged : List ℕ → Bool
 ragged ns = not (eqb (length ns % 6) 0)
@@ -69,11 +72,12 @@ abbrev pub runLeft : run.Told → List ℕ → List ℤ → Left
 runLeft t out ws =
     left done (written (answerAnd (ofRun (t .said)) (t .steps ∷ t .constraints ∷ [])) out) (written (wordNumbers (t .configuration)) ws)
 
-unfoldable pub runInto : (table recording : List ℕ) → (answer : List ℕ) → (words : List ℤ) → Left
-runInto t r out ws =
+unfoldable pub runInto : (table recording : List ℕ) → (unknown : ℕ) → (answer : List ℕ) → (words : List ℤ) → Left
+runInto t r u out ws =
     cond (short out 5) (left answerShort out ws)
     (cond (short ws 64) (left wordsShort out ws)
-    (runLeft (run.runOf t r) out ws))
+    (cond (ltb unknownIgnored u) (left choiceInvalid out ws)
+    (runLeft (run.runOf t r (unknownOf u)) out ws)))
 
 -- ---- ccsl_read_table
 

@@ -3,7 +3,7 @@ use mathlib.Core.Path.{_≡_}
 use mathlib.Core.Bool.{Bool, true, cond, _&&_}
 use mathlib.Core.List.{List, [], _∷_, map}
 use Prim.Native.Nat.{ℕ, _+_, _≤_}
-use lib.Dec.{leb}
+use lib.Dec.{eqb, leb}
 use lib.IntN.{ℤ}
 use lib.ListN.{getD, take}
 use Rattle.constraint.specs.Meaning.{word}
@@ -18,11 +18,25 @@ use Rattle.constraint.specs.declared.Relation.the-variants.{Coincides, Excludes
 use Rattle.constraint.specs.declared.Word.{Word}
 use Rattle.text.specs.declared.Span.{Span}
 use Rattle.table.specs.Reader as table
+use Rattle.recording.specs.declared.UnknownNames.{UnknownNames}
+use Rattle.recording.specs.declared.UnknownNames.the-variants.{Refused, Ignored}
 use Rattle.run.specs.Run as run
 use Rattle.judging.specs.Single as single
 use Rattle.lent.specs.Start as start
 use Rattle.order.specs.Order as order
 use Rattle.monitor_c.specs.declared.AnswerNumbers.{AnswerNumbers}
+
+-- ---- what becomes of a variable whose name the table lacks
+
+abbrev pub unknownRefused : ℕ
+unknownRefused = 0
+
+abbrev pub unknownIgnored : ℕ
+unknownIgnored = 1
+
+-- the choice that a number stands for; ccsl_run takes no number above the two
+abbrev pub unknownOf : ℕ → UnknownNames
+unknownOf n = cond (eqb n unknownRefused) Refused Ignored
 
 -- ---- kinds
 

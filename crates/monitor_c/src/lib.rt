@@ -13,6 +13,7 @@ use lists::put_words;
 use numbers::check_numbers;
 use numbers::place_numbers;
 use numbers::step_numbers;
+use numbers::unknown_of;
 use numbers::verdict_numbers;
 use records::clocks_of;
 use records::kinds_known;
@@ -37,6 +38,13 @@ pub const KIND_UNKNOWN: u32 = 6;
 
 pub const ORDER_SHORT: u32 = 7;
 
+pub const CHOICE_INVALID: u32 = 8;
+
+// What becomes of a variable whose name the table lacks: `unknown` of ccsl_run.
+pub const UNKNOWN_REFUSED: u32 = 0;
+
+pub const UNKNOWN_IGNORED: u32 = 1;
+
 // An answer: what is said, and its two numbers, 0 where it has none.
 pub struct AnswerNumbers {
     pub said: u64,
@@ -49,10 +57,11 @@ pub struct AnswerNumbers {
 pub extern "C" fn ccsl_run(
     table: &[u8],
     recording: &[u8],
+    unknown: u32,
     answer: &mut [u64],
     words: &mut [i64],
 ) -> u32
-    ensures { λ r. ⌜ left r (now (answer .exit)) (now (words .exit)) ≡ runInto (now (table .entry)) (now (recording .entry)) (now (answer .entry)) (now (words .entry)) ⌝ }
+    ensures { λ r. ⌜ left r (now (answer .exit)) (now (words .exit)) ≡ runInto (now (table .entry)) (now (recording .entry)) unknown (now (answer .entry)) (now (words .entry)) ⌝ }
 {
     if answer.len() < 5 {
         return ANSWER_SHORT;
@@ -60,7 +69,10 @@ pub extern "C" fn ccsl_run(
     if words.len() < 64 {
         return WORDS_SHORT;
     }
-    let report = run::run(table, recording);
+    if UNKNOWN_IGNORED < unknown {
+        return CHOICE_INVALID;
+    }
+    let report = run::run(table, recording, unknown_of(unknown));
     let verdict = report.verdict;
     let steps = report.steps;
     let configuration = report.configuration;

@@ -1,5 +1,6 @@
-// Kinds, verdicts and answers as numbers.
+// Choices, kinds, verdicts and answers as numbers.
 use super::AnswerNumbers;
+use super::UNKNOWN_REFUSED;
 use constraint::Definition;
 use constraint::Kind;
 use constraint::Relation;
@@ -7,6 +8,7 @@ use constraint::SamePlace;
 use judging::StepAnswer;
 use limit::Check;
 use limit::Refusal;
+use recording::UnknownNames;
 use run::Verdict;
 ghost use mathlib.Core.Path.{_≡_};
 ghost use Rattle.limit.specs.Limit.{numberOf};
@@ -17,7 +19,17 @@ ghost use Rattle.run.specs.Run as run;
 ghost use Rattle.judging.specs.Single as single;
 ghost use Rattle.lent.specs.Start as start;
 ghost use Rattle.order.specs.Order as order;
-ghost use Rattle.monitor_c.specs.Numbers.{atMost, kindNumber, kindOf, answerNumbers, ofRun, ofTable, ofStart, ofStep, ofPlace, ofOrder};
+ghost use Rattle.monitor_c.specs.Numbers.{unknownOf, atMost, kindNumber, kindOf, answerNumbers, ofRun, ofTable, ofStart, ofStep, ofPlace, ofOrder};
+
+// The choice that a number stands for.
+pub fn unknown_of(number: u32) -> UnknownNames
+    ensures { λ r. ⌜ r ≡ unknownOf number ⌝ }
+{
+    if number == UNKNOWN_REFUSED {
+        return UnknownNames::Refused;
+    }
+    UnknownNames::Ignored
+}
 
 // n, or the most that is let pass.
 pub fn at_most(most: u64, n: u64) -> u64

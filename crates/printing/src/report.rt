@@ -11,6 +11,7 @@ use constraint::Word;
 use limit::Place;
 use limit::Refusal;
 use recording::Time;
+use recording::UnknownNames;
 use run::Report;
 use run::Steps;
 use run::Verdict;
@@ -107,9 +108,14 @@ pub fn report_text(report: Report, buffer: &mut [u8; ROOM]) -> usize
     config_line(buffer, b, report.configuration, report.constraints)
 }
 
-// Puts what the program prints of a table and a recording at the front of a buffer, and answers how many bytes that are.
-pub fn run_text(table: &[u8], recording: &[u8], buffer: &mut [u8; ROOM]) -> usize
-    ensures { λ r. ⌜ p.Begins (now (buffer .entry)) (p.printed (run.runOf (now (table .entry)) (now (recording .entry)))) (now (buffer .exit)) r ⌝ }
+// Puts what the program prints of a table and a recording, with a choice what becomes of names that the table lacks, at the front of a buffer, and answers how many bytes that are.
+pub fn run_text(
+    table: &[u8],
+    recording: &[u8],
+    unknown: UnknownNames,
+    buffer: &mut [u8; ROOM],
+) -> usize
+    ensures { λ r. ⌜ p.Begins (now (buffer .entry)) (p.printed (run.runOf (now (table .entry)) (now (recording .entry)) unknown)) (now (buffer .exit)) r ⌝ }
 {
-    report_text(run::run(table, recording), buffer)
+    report_text(run::run(table, recording, unknown), buffer)
 }

@@ -12,7 +12,7 @@ use lib.ListN.{length}
 use Rattle.limit.specs.Checked.{Checked, passed, stopped, andThen, checked}
 use Rattle.limit.specs.declared.Check.{Check}
 use Rattle.limit.specs.declared.Check.the-variants.{Passed, Refused}
-use Rattle.limit.specs.declared.Limit.the-variants.{HeaderCommand, VariableShape, DeclaredTwice, VariableCount, ClockUndeclared, HeaderCutOff, RecordingLength, RecordingByte}
+use Rattle.limit.specs.declared.Limit.the-variants.{HeaderCommand, VariableShape, DeclaredTwice, VariableUnknown, VariableCount, ClockUndeclared, HeaderCutOff, RecordingLength, RecordingByte}
 use Rattle.limit.specs.declared.Refusal.{Refusal}
 use Rattle.constraint.proofs.Booleans.{and-l, and-r}
 use Rattle.text.specs.Bytes.{sameBytes}
@@ -22,7 +22,7 @@ use Rattle.text.specs.declared.Span.{Span}
 use Rattle.text.proofs.Runs.{is-word, is-last, words-over}
 use Rattle.recording.specs.Answers.{afterEnd, Resumes, FiveWords, declaredAs, headerAs, Declares}
 use Rattle.recording.specs.Header.{words, says, commandOf, shaped, declare, Header, cutOff, close, byCommand, header, skipping, declaring, mostBytes, firstOther, opened}
-use Rattle.recording.specs.Variables.{Variable, Naming, lookUp, isDeclared, clockAgain, allDeclared}
+use Rattle.recording.specs.Variables.{Variable, refusesUnknown, Naming, lookUp, isDeclared, clockAgain, allDeclared}
 use Rattle.recording.specs.declared.Command.{Command}
 use Rattle.recording.specs.declared.Command.the-variants.{Skipped, Declaration, Definitions, Unknown}
 use Rattle.recording.specs.Index.{declared}
@@ -118,6 +118,9 @@ module _ (g : Naming) (r : List ℕ) (at : ℕ) (vs : List Variable) (kind width
   abbrev twice : Bool
   twice = isDeclared (lookUp vs (bytesOf r id)) || clockAgain vs (g .named (bytesOf r name))
 
+  abbrev unknown : Bool
+  unknown = refusesUnknown (g .unknown) (g .named (bytesOf r name))
+
   pub declare-shape : shaped r kind width id last ≡ false → declare g r at vs kind width id name last ≡ stopped VariableShape at
   unfolding declare
   declare-shape s = refuses _ _ _ _ (ap not s)
@@ -128,13 +131,18 @@ module _ (g : Naming) (r : List ℕ) (at : ℕ) (vs : List Variable) (kind width
     declare-twice d = allows _ _ _ _ (ap not s) ∙ refuses _ _ _ _ d
 
     module _ (d : twice ≡ false) where
-      pub declare-full : 128 ≤ length vs → declare g r at vs kind width id name last ≡ stopped VariableCount at
+      pub declare-unknown : unknown ≡ true → declare g r at vs kind width id name last ≡ stopped VariableUnknown at
       unfolding declare
-      declare-full h = allows _ _ _ _ (ap not s) ∙ allows _ _ _ _ d ∙ refuses _ _ _ _ (le-leb 128 (length vs) h)
+      declare-unknown u = allows _ _ _ _ (ap not s) ∙ allows _ _ _ _ d ∙ refuses _ _ _ _ u
 
-      pub declare-more : length vs < 128 → declare g r at vs kind width id name last ≡ passed (vs ++ record { id = bytesOf r id; clock = g .named (bytesOf r name) } ∷ [])
-      unfolding declare
-      declare-more h = allows _ _ _ _ (ap not s) ∙ allows _ _ _ _ d ∙ allows _ _ _ _ (lt-leb 128 (length vs) h)
+      module _ (u : unknown ≡ false) where
+        pub declare-full : 128 ≤ length vs → declare g r at vs kind width id name last ≡ stopped VariableCount at
+        unfolding declare
+        declare-full h = allows _ _ _ _ (ap not s) ∙ allows _ _ _ _ d ∙ allows _ _ _ _ u ∙ refuses _ _ _ _ (le-leb 128 (length vs) h)
+
+        pub declare-more : length vs < 128 → declare g r at vs kind width id name last ≡ passed (vs ++ record { id = bytesOf r id; clock = g .named (bytesOf r name) } ∷ [])
+        unfolding declare
+        declare-more h = allows _ _ _ _ (ap not s) ∙ allows _ _ _ _ d ∙ allows _ _ _ _ u ∙ allows _ _ _ _ (lt-leb 128 (length vs) h)
 
 -- a variable more, and the words after it, are what is left of a header
 left-after : (o : Check) (vs : List Variable) (us : List Span) (f : List Variable → List Span → Checked Header)

@@ -1,5 +1,6 @@
 pub mod BeforeWords
 pub mod BodyLaws
+pub mod Choices
 pub mod HeaderLaws
 pub mod StepTicks
 pub mod VariableLaws

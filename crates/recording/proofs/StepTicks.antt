@@ -13,7 +13,7 @@ use lib.Dec.{leb, ltb}
 use lib.ListN.{length, take, drop, length-take}
 use lib.Pow.{pow-lt, suc-ones}
 use Rattle.limit.specs.declared.Limit.{Limit}
-use Rattle.limit.specs.declared.Limit.the-variants.{RecordingLength, RecordingByte, VariableShape, DeclaredTwice, VariableCount, BodyWord, MarkTime, ChangeBeforeMark, TickTwice}
+use Rattle.limit.specs.declared.Limit.the-variants.{RecordingLength, RecordingByte, VariableShape, DeclaredTwice, VariableUnknown, VariableCount, BodyWord, MarkTime, ChangeBeforeMark, TickTwice}
 use Rattle.constraint.specs.Ticks.{withTick, bits}
 use Rattle.text.specs.Bytes.{sameBytes}
 use Rattle.text.specs.Digits.{number}
@@ -29,7 +29,7 @@ use Rattle.grammar.specs.declared.Names.{Names}
 use Rattle.recording.specs.Body.{opensMark, isValue, unmarked, begin, ticking, markTurn, foundTurn, variableTurn, changeTurn, wordTurn, Reading, closing, onward, bodySteps, bodyOf, reading}
 use Rattle.limit.specs.Checked.{Checked, passed, stopped, refuseIf, andThen}
 use Rattle.recording.specs.Header.{says, commandOf, shaped, declare, Header, mostBytes, firstOther, close, byCommand, header, skipping, declaring, opened, words}
-use Rattle.recording.specs.Variables.{Variable, Naming, clockNamed, withId, lookUp, isDeclared, clockAgain, allDeclared}
+use Rattle.recording.specs.Variables.{Variable, refusesUnknown, Naming, clockNamed, withId, lookUp, isDeclared, clockAgain, allDeclared}
 use Rattle.recording.specs.declared.Command.{Command}
 use Rattle.recording.specs.declared.Command.the-variants.{Skipped, Declaration, Definitions, Unknown}
 use Rattle.recording.specs.declared.Step.{Step}
@@ -119,10 +119,12 @@ module _ (g : Naming) (room : g .count ≤ 32) where
         let v : Variable = record { id = bytesOf r id; clock = g .named (bytesOf r name) } in
         let added : Checked (List Variable) = passed (vs ++ v ∷ []) in
         let p37 : Checked (List Variable) = refuseIf (leb 128 (length vs)) VariableCount at added in
-        let p34 : Checked (List Variable) = refuseIf (isDeclared (lookUp vs (bytesOf r id)) || clockAgain vs (g .named (bytesOf r name))) DeclaredTwice at p37 in
+        let p38 : Checked (List Variable) = refuseIf (refusesUnknown (g .unknown) (v .clock)) VariableUnknown at p37 in
+        let p34 : Checked (List Variable) = refuseIf (isDeclared (lookUp vs (v .id)) || clockAgain vs (v .clock)) DeclaredTwice at p38 in
         unless-broken Clocks (not (shaped r kind width id last)) VariableShape at p34
-        (unless-broken Clocks (isDeclared (lookUp vs (bytesOf r id)) || clockAgain vs (g .named (bytesOf r name))) DeclaredTwice at p37
-        (unless-broken Clocks (leb 128 (length vs)) VariableCount at added (one-more vs v h (all (bytesOf r name)))))
+        (unless-broken Clocks (isDeclared (lookUp vs (v .id)) || clockAgain vs (v .clock)) DeclaredTwice at p38
+        (unless-broken Clocks (refusesUnknown (g .unknown) (v .clock)) VariableUnknown at p37
+        (unless-broken Clocks (leb 128 (length vs)) VariableCount at added (one-more vs v h (all (bytesOf r name))))))
 
     then-known : (c : Checked (List Variable)) (f : List Variable → Checked Header) → Each Clocks c → ((vs : List Variable) → Clocks vs → Known (f vs)) → Known (andThen c f)
     unfolding andThen

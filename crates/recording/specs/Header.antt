@@ -1,5 +1,5 @@
--- The header: document 01, "Recording" and the rows 30 to 37 of "Where each refusal is checked". r is the recording, g what the table says of
--- names. Assumes nothing.
+-- The header: document 01, "Recording" and the rows 30 to 37 of "Where each refusal is checked", with 38 of document 02, M-103. r is the
+-- recording, g what the table says of names. Assumes nothing.
 use mathlib.Core.Path.{_≡_, refl}
 use mathlib.Core.Bool.{Bool, true, not, cond, _&&_, _||_}
 use mathlib.Core.List.{List, [], _∷_, _++_}
@@ -7,16 +7,18 @@ use Prim.Native.Nat.{ℕ}
 use Prim.Native.String.{String}
 use lib.Dec.{leb, ltb}
 use lib.ListN.{length}
-use Rattle.limit.specs.declared.Limit.the-variants.{RecordingLength, RecordingByte, HeaderCommand, VariableShape, DeclaredTwice, VariableCount, ClockUndeclared, HeaderCutOff}
+use Rattle.limit.specs.declared.Limit.the-variants.{RecordingLength, RecordingByte, HeaderCommand, VariableShape, DeclaredTwice, VariableUnknown, VariableCount, ClockUndeclared, HeaderCutOff}
 use Rattle.text.specs.Ascii.{ascii}
 use Rattle.text.specs.Bytes.{passes, sameBytes}
 use Rattle.text.specs.Split.{bytesOf, wordsAt, runEnd, tokens, filled, grown}
 use Rattle.text.specs.declared.Class.the-variants.{Parting, Recorded}
 use Rattle.text.specs.declared.Span.{Span}
 use Rattle.limit.specs.Checked.{Checked, passed, stopped, refuseIf, andThen}
-use Rattle.recording.specs.Variables.{Variable, Naming, lookUp, isDeclared, clockAgain, allDeclared}
+use Rattle.recording.specs.Variables.{Variable, ignored, refusesUnknown, Naming, withId, lookUp, isDeclared, clockAgain, allDeclared}
 use Rattle.recording.specs.declared.Command.{Command}
 use Rattle.recording.specs.declared.Command.the-variants.{Skipped, Declaration, Definitions, Unknown}
+use Rattle.recording.specs.declared.UnknownNames.{UnknownNames}
+use Rattle.recording.specs.declared.UnknownNames.the-variants.{Refused, Ignored}
 
 -- words are parted by bytes 9, 10, 13, 32
 abbrev pub words : List ℕ → ℕ → List Span
@@ -37,13 +39,15 @@ abbrev pub shaped : List ℕ → (kind width id last : Span) → Bool
 shaped r kind width id last =
     says (bytesOf r kind) "event" && says (bytesOf r width) "1" && leb (length (bytesOf r id)) 4 && says (bytesOf r last) "$end"
 
--- a declaration by the command at an offset: 33 another shape; 34 id declared before, or a table clock declared again; 37 a 129th variable
+-- a declaration by the command at an offset: 33 another shape; 34 id declared before, or a table clock declared again; 38 a name that the table
+-- lacks, unless told to ignore it; 37 a 129th variable
 unfoldable pub declare : Naming → List ℕ → (at : ℕ) → List Variable → (kind width id name last : Span) → Checked (List Variable)
 declare g r at vs kind width id name last =
     refuseIf (not (shaped r kind width id last)) VariableShape at
     (refuseIf (isDeclared (lookUp vs (bytesOf r id)) || clockAgain vs (g .named (bytesOf r name))) DeclaredTwice at
+    (refuseIf (refusesUnknown (g .unknown) (g .named (bytesOf r name))) VariableUnknown at
     (refuseIf (leb 128 (length vs)) VariableCount at
-    (passed (vs ++ record { id = bytesOf r id; clock = g .named (bytesOf r name) } ∷ []))))
+    (passed (vs ++ record { id = bytesOf r id; clock = g .named (bytesOf r name) } ∷ [])))))
 
 -- a header that was read: its variables, and the words of the body
 pub record Header : Type 0 where
@@ -118,6 +122,29 @@ no-command : commandOf (ascii "$end") ≡ Unknown
 unfolding sameBytes
 no-command = refl
 
-cut-off : header (record { named = λ w. 0; count = 1 }) (ascii "$var 1") [] (words (ascii "$var 1") 0) ≡ stopped HeaderCutOff 6
+-- a table without clocks
+abbrev noClock : UnknownNames → Naming
+noClock u = record { named = λ w. ignored; count = 0; unknown = u }
+
+cut-off : header (noClock Refused) (ascii "$var 1") [] (words (ascii "$var 1") 0) ≡ stopped HeaderCutOff 6
 unfolding header declaring sameBytes tokens filled grown
 cut-off = refl
+
+-- by the command at 30, a variable with a name that the table lacks: it is refused there, or ignored; before that, its id declared before is
+abbrev at : (start end : ℕ) → Span
+at i j = record { start = i; end = j }
+
+abbrev lamp : UnknownNames → List Variable → Checked (List Variable)
+lamp u vs = declare (noClock u) (ascii "event 1 ! lamp $end") 30 vs (at 0 5) (at 6 7) (at 8 9) (at 10 14) (at 15 19)
+
+unknown-refused : lamp Refused [] ≡ stopped VariableUnknown 30
+unfolding declare withId sameBytes
+unknown-refused = refl
+
+unknown-ignored : lamp Ignored [] ≡ passed (record { id = ascii "!"; clock = ignored } ∷ [])
+unfolding declare withId sameBytes
+unknown-ignored = refl
+
+id-before-name : lamp Refused (record { id = ascii "!"; clock = 0 } ∷ []) ≡ stopped DeclaredTwice 30
+unfolding declare withId sameBytes
+id-before-name = refl

@@ -1,4 +1,4 @@
--- The variables that a header declares: document 01, "Recording". Assumes nothing.
+-- The variables that a header declares: document 01, "Recording", and document 02, M-103. Assumes nothing.
 use mathlib.Core.Path.{_≡_, refl}
 use mathlib.Core.Bool.{Bool, true, false, not, cond, _&&_, _||_}
 use mathlib.Core.List.{List, [], _∷_}
@@ -12,26 +12,34 @@ use Rattle.grammar.specs.Names.{numberIn}
 use Rattle.grammar.specs.declared.Found.{Found}
 use Rattle.grammar.specs.declared.Found.the-variants.{At, Nothing}
 use Rattle.grammar.specs.declared.Names.{Names}
+use Rattle.recording.specs.declared.UnknownNames.{UnknownNames}
+use Rattle.recording.specs.declared.UnknownNames.the-variants.{Refused, Ignored}
 
 -- a variable: the bytes of its id, and the number of its clock
 pub record Variable : Type 0 where
   pub id : List ℕ
   pub clock : ℕ
 
--- the number of the table's clock with a name. A variable with a name that the table lacks is ignored: its number is that of no clock
+-- the number of the table's clock with a name. That of a name that the table lacks is the number of no clock: in the body such a variable is ignored
 abbrev pub ignored : ℕ
 ignored = 32
 
 abbrev pub clockNamed : List ℕ → Names → List ℕ → ℕ
 clockNamed t ns w = clockOf (numberIn t ns w)
 
--- what a header is read by: the number of the table's clock with a name, and how many clocks the table names
+-- document 02, M-103: a variable whose name the table lacks is refused unless told to ignore it. Whether it is, by the number of its clock
+abbrev pub refusesUnknown : UnknownNames → (clock : ℕ) → Bool
+refusesUnknown Refused k = eqb k ignored
+refusesUnknown Ignored k = false
+
+-- what a header is read by: the number of the table's clock with a name, how many clocks the table names, and what becomes of other names
 pub record Naming : Type 0 where
   pub named : List ℕ → ℕ
   pub count : ℕ
+  pub unknown : UnknownNames
 
-abbrev pub namingIn : (table : List ℕ) → Names → Naming
-namingIn t ns = record { named = clockNamed t ns; count = ns .count }
+abbrev pub namingIn : (table : List ℕ) → Names → UnknownNames → Naming
+namingIn t ns u = record { named = clockNamed t ns; count = ns .count; unknown = u }
 
 -- the clock of the variable with an id
 unfoldable pub withId : List Variable → List ℕ → Found

@@ -2,6 +2,7 @@
 use super::Command;
 use super::Declared;
 use super::HeaderRead;
+use super::UnknownNames;
 use super::Variables;
 use super::Words;
 use super::lookup::all_declared;
@@ -116,6 +117,16 @@ fn clock_named(table: &[u8], names: Names, name: &[u8]) -> u8
     }
 }
 
+// Whether a variable is refused for its name, by the number of its clock.
+fn refuses_unknown(unknown: UnknownNames, clock: u8) -> bool
+    ensures { λ r. ⌜ r ≡ v.refusesUnknown unknown clock ⌝ }
+{
+    match unknown {
+        UnknownNames::Refused => clock == 32,
+        UnknownNames::Ignored => false,
+    }
+}
+
 // A declaration that breaks a limit.
 fn undeclared(variables: Variables, limit: Limit, at: usize) -> Declared
     ensures { λ r. ⌜ (a.declaredAs r ≡ k.Checked.stopped limit at) × (r .variables ≡ variables) ⌝ }
@@ -134,12 +145,13 @@ fn declare(
     table: &[u8],
     names: Names,
     recording: &[u8],
+    unknown: UnknownNames,
     variables: Variables,
     at: usize,
     words: Words,
 ) -> Declared
     requires { ⌜ x.Indexed variables ⌝ }
-    ensures { λ r. ⌜ (a.declaredAs r ≡ h.declare (v.namingIn (now (table .entry)) names) (now (recording .entry)) at (x.declared variables) (words .kind) (words .width) (words .id) (words .name) (words .last)) × x.Indexed (r .variables) ⌝ }
+    ensures { λ r. ⌜ (a.declaredAs r ≡ h.declare (v.namingIn (now (table .entry)) names unknown) (now (recording .entry)) at (x.declared variables) (words .kind) (words .width) (words .id) (words .name) (words .last)) × x.Indexed (r .variables) ⌝ }
 {
     if !shaped(recording, words) {
         return undeclared(variables, Limit::VariableShape, at);
@@ -147,6 +159,9 @@ fn declare(
     let clock = clock_named(table, names, text::part(recording, words.name));
     if is_declared(variables, text::part(recording, words.id)) | clock_again(variables, clock) {
         return undeclared(variables, Limit::DeclaredTwice, at);
+    }
+    if refuses_unknown(unknown, clock) {
+        return undeclared(variables, Limit::VariableUnknown, at);
     }
     if 128 <= variables.count {
         return undeclared(variables, Limit::VariableCount, at);
@@ -176,17 +191,26 @@ fn declaration(
     table: &[u8],
     names: Names,
     recording: &[u8],
+    unknown: UnknownNames,
     variables: Variables,
     command: Span,
 ) -> HeaderRead
     requires { ⌜ x.Indexed variables ⌝ }
-    ensures { λ r. ⌜ a.Declares (v.namingIn (now (table .entry)) names) (now (recording .entry)) (x.declared variables) command r ⌝ }
+    ensures { λ r. ⌜ a.Declares (v.namingIn (now (table .entry)) names unknown) (now (recording .entry)) (x.declared variables) command r ⌝ }
 {
     let words = five_words(recording, command.end);
     if words.last.end <= words.last.start {
         return refused(variables, Limit::HeaderCutOff, recording.len());
     }
-    let declared = declare(table, names, recording, variables, command.start, words);
+    let declared = declare(
+        table,
+        names,
+        recording,
+        unknown,
+        variables,
+        command.start,
+        words,
+    );
     let outcome = declared.outcome;
     let more = declared.variables;
     HeaderRead {
@@ -219,9 +243,9 @@ fn close(recording: &[u8], variables: Variables, clocks: usize, command: Span) -
 }
 
 // The header, command by command.
-fn commands(table: &[u8], names: Names, recording: &[u8]) -> HeaderRead
+fn commands(table: &[u8], names: Names, recording: &[u8], unknown: UnknownNames) -> HeaderRead
     requires { ⌜ names .count ≤ 32 ⌝ }
-    ensures { λ r. ⌜ (a.headerAs (now (recording .entry)) r ≡ h.header (v.namingIn (now (table .entry)) names) (now (recording .entry)) [] (h.words (now (recording .entry)) 0)) × x.Indexed (r .variables) ⌝ }
+    ensures { λ r. ⌜ (a.headerAs (now (recording .entry)) r ≡ h.header (v.namingIn (now (table .entry)) names unknown) (now (recording .entry)) [] (h.words (now (recording .entry)) 0)) × x.Indexed (r .variables) ⌝ }
 {
     let mut variables = none();
     let mut at = 0;
@@ -237,7 +261,7 @@ fn commands(table: &[u8], names: Names, recording: &[u8]) -> HeaderRead
                 continue;
             }
             Command::Declaration => {
-                let read = declaration(table, names, recording, variables, word);
+                let read = declaration(table, names, recording, unknown, variables, word);
                 let outcome = read.outcome;
                 if let Check::Refused(_) = outcome {
                     return read;
@@ -256,10 +280,15 @@ fn commands(table: &[u8], names: Names, recording: &[u8]) -> HeaderRead
     }
 }
 
-// The header of a recording: its variables, and where the body begins; or the first refusal of 30 to 37.
-pub fn read_header(table: &[u8], names: Names, recording: &[u8]) -> HeaderRead
+// The header of a recording: its variables, and where the body begins; or the first refusal of 30 to 38.
+pub fn read_header(
+    table: &[u8],
+    names: Names,
+    recording: &[u8],
+    unknown: UnknownNames,
+) -> HeaderRead
     requires { ⌜ names .count ≤ 32 ⌝ }
-    ensures { λ r. ⌜ (a.headerAs (now (recording .entry)) r ≡ h.opened (v.namingIn (now (table .entry)) names) (now (recording .entry))) × x.Indexed (r .variables) ⌝ }
+    ensures { λ r. ⌜ (a.headerAs (now (recording .entry)) r ≡ h.opened (v.namingIn (now (table .entry)) names unknown) (now (recording .entry))) × x.Indexed (r .variables) ⌝ }
 {
     if 65536 < recording.len() {
         return refused(none(), Limit::RecordingLength, 0);
@@ -268,5 +297,5 @@ pub fn read_header(table: &[u8], names: Names, recording: &[u8]) -> HeaderRead
     if other < recording.len() {
         return refused(none(), Limit::RecordingByte, other);
     }
-    commands(table, names, recording)
+    commands(table, names, recording, unknown)
 }

@@ -17,6 +17,12 @@ use text::Span;
 // The recorded time of a mark.
 pub struct Time(pub u64);
 
+// What becomes of a variable whose name the table lacks: document 02, M-103. It is refused, or, where told so, ignored.
+pub enum UnknownNames {
+    Refused,
+    Ignored,
+}
+
 // The variables declared so far, in order: the numbers that stand for their ids, and the numbers of their clocks, 32 where the
 // table has none of that name. Ids are parted into buckets; a search for one begins where its bucket starts.
 pub struct Variables {

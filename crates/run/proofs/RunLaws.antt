@@ -31,6 +31,7 @@ use Rattle.recording.specs.Variables.{namingIn}
 use Rattle.recording.specs.declared.HeaderRead.{HeaderRead}
 use Rattle.recording.proofs.HeaderLaws.{opened-within}
 use Rattle.recording.specs.declared.Step.{Step}
+use Rattle.recording.specs.declared.UnknownNames.{UnknownNames}
 use Rattle.run.specs.Complete.{completeAll}
 use Rattle.run.specs.StepByStep.{goesOn, verdictOf, Progress, after, begins, judgeOn, over}
 use Rattle.run.specs.Run.{endingSaid, afterStep, judgeAll, refused, recordsOf, startOf, zeros, ran, completedFor, runTable, withTable, runOf}
@@ -100,11 +101,7 @@ module _ (named : ℕ) (rs : List Constraint) (b : Progress) (o : Step) where
 
 -- ---- the table and the header
 
-module _ (t r : List ℕ) (q : TableRead) (e : table.told q ≡ table.readTable t) where
-  pub table-refused : (f : Refusal) → q .outcome ≡ Unread f → runOf t r ≡ record { said = refused (numberOf (f .limit)) (f .place .0); steps = 0; constraints = 0; configuration = zeros }
-  unfolding withTable
-  table-refused f o = rw (← e, o)
-
+module _ (t : List ℕ) (q : TableRead) (e : table.told q ≡ table.readTable t) where
   module _ (o : q .outcome ≡ Passed) where
     is-read : table.readTable t .said ≡ table.read
     is-read = ap (λ (x : table.Told). x .said) (sym e) ∙ ap table.said o
@@ -112,26 +109,32 @@ module _ (t r : List ℕ) (q : TableRead) (e : table.told q ≡ table.readTable 
     is-table : table.readTable t .table ≡ q .table
     is-table = ap (λ (x : table.Told). x .table) (sym e)
 
-    pub table-read : runOf t r ≡ runTable (q .table) (completedFor (q .table) (reading (namingIn t (q .table .names)) r))
-    unfolding withTable
-    table-read = rw is-read (ap (λ (b : Table). runTable b (completedFor b (reading (namingIn t (b .names)) r))) is-table)
-
     pub table-passes : table.Passes (q .table)
     table-passes = rw (← is-table) (every-table-passes t is-read)
 
-    module _ (h : HeaderRead) (k : headerAs r h ≡ opened (namingIn t (q .table .names)) r) where
-      pub header-refused : (f : Refusal) → h .outcome ≡ Unread f
-          → runOf t r ≡ ran (q .table .count) (record { said = refused (numberOf (f .limit)) (f .place .0); steps = 0; configuration = startOf (q .table) })
-      unfolding onward judgeAll completeAll
-      header-refused f p = table-read ∙ rw (← k, p)
+  module _ (r : List ℕ) (u : UnknownNames) where
+    pub table-refused : (f : Refusal) → q .outcome ≡ Unread f → runOf t r u ≡ record { said = refused (numberOf (f .limit)) (f .place .0); steps = 0; constraints = 0; configuration = zeros }
+    unfolding withTable
+    table-refused f o = rw (← e, o)
 
-      module _ (p : h .outcome ≡ Passed) where
-        pub header-read : runOf t r ≡ ran (q .table .count) (judgeOn (clocksIn (q .table) .named) (recordsOf (q .table)) (begins (startOf (q .table))) (bodySteps (declared (h .variables)) r unmarked (words r (h .body))))
-        unfolding onward
-        header-read = table-read ∙ rw (← k, p)
+    module _ (o : q .outcome ≡ Passed) where
+      table-read : runOf t r u ≡ runTable (q .table) (completedFor (q .table) (reading (namingIn t (q .table .names) u) r))
+      unfolding withTable
+      table-read = rw (is-read o) (ap (λ (b : Table). runTable b (completedFor b (reading (namingIn t (b .names) u) r))) (is-table o))
 
-        pub header-within : length r ≤ 65_536
-        header-within =
-            let g : Header = record { variables = declared (h .variables); body = words r (h .body) } in
-            let s : headerAs r h ≡ passed g = rw p in
-            opened-within _ r g (sym k ∙ s)
+      module _ (h : HeaderRead) (k : headerAs r h ≡ opened (namingIn t (q .table .names) u) r) where
+        pub header-refused : (f : Refusal) → h .outcome ≡ Unread f
+            → runOf t r u ≡ ran (q .table .count) (record { said = refused (numberOf (f .limit)) (f .place .0); steps = 0; configuration = startOf (q .table) })
+        unfolding onward judgeAll completeAll
+        header-refused f p = table-read ∙ rw (← k, p)
+
+        module _ (p : h .outcome ≡ Passed) where
+          pub header-read : runOf t r u ≡ ran (q .table .count) (judgeOn (clocksIn (q .table) .named) (recordsOf (q .table)) (begins (startOf (q .table))) (bodySteps (declared (h .variables)) r unmarked (words r (h .body))))
+          unfolding onward
+          header-read = table-read ∙ rw (← k, p)
+
+          pub header-within : length r ≤ 65_536
+          header-within =
+              let g : Header = record { variables = declared (h .variables); body = words r (h .body) } in
+              let s : headerAs r h ≡ passed g = rw p in
+              opened-within _ r g (sym k ∙ s)

@@ -9,6 +9,7 @@ use Rattle.grammar.specs.declared.Table.{Table}
 use Rattle.forms.specs.Lines.{TableReads}
 use Rattle.recording.specs.Body.{ended, Reading}
 use Rattle.recording.specs.declared.Step.{Step}
+use Rattle.recording.specs.declared.UnknownNames.{UnknownNames}
 use Rattle.run.specs.Complete.{asRecorded}
 use Rattle.run.specs.Judgement.{after, SingleSteps, ticking, timed, untimed, SameExercise}
 use Rattle.run.specs.Run.{Told, tableOf, recordedBy, readingBy, runOf}
@@ -23,22 +24,22 @@ pub record RunSteps (b : Table) (g : Reading) (told : Told) : Type 0 where
   pub single : SingleSteps b accepted left (told .said)
 
 abbrev pub RunIsSingleSteps : Type 0
-RunIsSingleSteps = (t r : List ℕ) → TableReads t → RunSteps (tableOf t) (readingBy t r) (runOf t r)
+RunIsSingleSteps = (t r : List ℕ) (u : UnknownNames) → TableReads t → RunSteps (tableOf t) (readingBy t r u) (runOf t r u)
 
 -- the steps of a run, each with its named clocks alone, are the recorded ones
 abbrev pub StepsAsRecorded : Type 0
-StepsAsRecorded = (t r : List ℕ) → TableReads t → map (asRecorded (clocksIn (tableOf t) .named)) (readingBy t r .steps) ≡ recordedBy t r .steps
+StepsAsRecorded = (t r : List ℕ) (u : UnknownNames) → TableReads t → map (asRecorded (clocksIn (tableOf t) .named)) (readingBy t r u .steps) ≡ recordedBy t r u .steps
 
 -- two recordings of one exercise, in whose steps, as recorded, the same clocks tick together, steps without ticks left out, have the same verdict
 -- and words; where the times of these steps are the same too, the time of a violation is the same
 abbrev pub SameRuns : (stamp : ℕ → ℕ) → Type 0
 SameRuns stamp =
-    (t r q : List ℕ)
+    (t r q : List ℕ) (u : UnknownNames)
     → TableReads t
-    → recordedBy t r .ending ≡ ended
-    → recordedBy t q .ending ≡ ended
-    → ticking stamp (recordedBy t r .steps) ≡ ticking stamp (recordedBy t q .steps)
-    → SameExercise stamp (readingBy t r) (readingBy t q) (runOf t r) (runOf t q)
+    → recordedBy t r u .ending ≡ ended
+    → recordedBy t q u .ending ≡ ended
+    → ticking stamp (recordedBy t r u .steps) ≡ ticking stamp (recordedBy t q u .steps)
+    → SameExercise stamp (readingBy t r u) (readingBy t q u) (runOf t r u) (runOf t q u)
 
 abbrev pub TwoRecordings : Type 0
 TwoRecordings = SameRuns timed × SameRuns untimed

@@ -10,22 +10,23 @@ use Rattle.constraint.specs.declared.Constraint.{Constraint}
 use Rattle.forms.specs.Lines.{TableRefuses, TableReads}
 use Rattle.recording.specs.Body.{refusedAt}
 use Rattle.recording.specs.declared.Step.{Step}
+use Rattle.recording.specs.declared.UnknownNames.{UnknownNames}
 use Rattle.run.specs.Judgement.{Accepted, Every, FirstWithout, HoldsAt, StaysAt}
 use Rattle.run.specs.Run.{tableOf, readingBy}
 
 -- a run is refused: the table is; or every step that was read is accepted, and reading is refused; or a word leaves its million, that of a
 -- constraint which defines an implicit clock too, 51
-pub data RunRefuses (t r : List ℕ) : (number place : ℕ) → Type 0 where
-  by-table : {n p : ℕ} → TableRefuses t n p → RunRefuses t r n p
+pub data RunRefuses (t r : List ℕ) (u : UnknownNames) : (number place : ℕ) → Type 0 where
+  by-table : {n p : ℕ} → TableRefuses t n p → RunRefuses t r u n p
   by-reading : {l : Limit} {p : ℕ}
       → TableReads t
-      → readingBy t r .ending ≡ refusedAt l p
-      → Accepted (tableOf t .records) (readingBy t r .steps)
-      → RunRefuses t r (numberOf l) p
+      → readingBy t r u .ending ≡ refusedAt l p
+      → Accepted (tableOf t .records) (readingBy t r u .steps)
+      → RunRefuses t r u (numberOf l) p
   by-million : (before later : List Step) (s : Step) (c : Constraint)
       → TableReads t
-      → readingBy t r .steps ≡ before ++ s ∷ later
+      → readingBy t r u .steps ≡ before ++ s ∷ later
       → Accepted (tableOf t .records) before
       → Every (HoldsAt before s) (tableOf t .records)
       → FirstWithout (StaysAt before s) (tableOf t .records) c
-      → RunRefuses t r (numberOf Million) (s .mark .0)
+      → RunRefuses t r u (numberOf Million) (s .mark .0)

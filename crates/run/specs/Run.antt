@@ -1,5 +1,5 @@
 -- The whole run: the table is read, then the recording, its steps are completed, and judged one after the other, up to the first that is not
--- accepted (document 01, "What the monitor does", "Recording" and "Where each refusal is checked"; document 02, M-101). Assumes nothing.
+-- accepted (document 01, "What the monitor does", "Recording" and "Where each refusal is checked"; document 02, M-101 and M-103). Assumes nothing.
 use mathlib.Core.Path.{_≡_, refl}
 use mathlib.Core.List.{List, [], _∷_}
 use Prim.Native.Nat.{ℕ, suc, _-_}
@@ -20,6 +20,7 @@ use Rattle.grammar.specs.declared.Table.{Table}
 use Rattle.recording.specs.Body.{Ending, ended, refusedAt, Reading, reading}
 use Rattle.recording.specs.Variables.{namingIn}
 use Rattle.recording.specs.declared.Step.{Step}
+use Rattle.recording.specs.declared.UnknownNames.{UnknownNames}
 use Rattle.judging.specs.Single.{exampleRecords}
 use Rattle.judging.specs.Step.{judged}
 use Rattle.judging.specs.declared.Judged.{Judged}
@@ -103,16 +104,16 @@ ran n j = record { said = j .said; steps = j .steps; constraints = n; configurat
 abbrev pub tableOf : List ℕ → Table
 tableOf t = table.readTable t .table
 
--- the recording as read with the table's names: what was recorded
-abbrev pub recordedBy : (table recording : List ℕ) → Reading
-recordedBy t r = reading (namingIn t (tableOf t .names)) r
+-- the recording as read with the table's names, and a choice what becomes of others (document 02, M-103): what was recorded
+abbrev pub recordedBy : (table recording : List ℕ) → UnknownNames → Reading
+recordedBy t r u = reading (namingIn t (tableOf t .names) u) r
 
 -- the steps of a reading with the ticks of implicit clocks, from the start words on
 abbrev pub completedFor : Table → Reading → Reading
 completedFor b g = record { steps = completeAll (clocksIn b .named) (recordsOf b) (startOf b .words) (g .steps); ending = g .ending }
 
-abbrev pub readingBy : (table recording : List ℕ) → Reading
-readingBy t r = completedFor (tableOf t) (recordedBy t r)
+abbrev pub readingBy : (table recording : List ℕ) → UnknownNames → Reading
+readingBy t r u = completedFor (tableOf t) (recordedBy t r u)
 
 -- the run of what was read by a table
 abbrev pub runTable : Table → Reading → Told
@@ -123,8 +124,8 @@ unfoldable pub withTable : table.Said → (run : Told) → Told
 withTable table.read d = d
 withTable (table.refused n p) d = record { said = refused n p; steps = 0; constraints = 0; configuration = zeros }
 
-abbrev pub runOf : (table recording : List ℕ) → Told
-runOf t r = withTable (table.readTable t .said) (runTable (tableOf t) (readingBy t r))
+abbrev pub runOf : (table recording : List ℕ) → UnknownNames → Told
+runOf t r u = withTable (table.readTable t .said) (runTable (tableOf t) (readingBy t r u))
 
 -- ---- document 01's example: #0 req; #3; #5 ack and req; #8 ack and done; #9 req and ack. It prints `violated 1 9`, `steps 4`, `config 0 0`
 

@@ -14,6 +14,7 @@ use limit::Check;
 use recording::ChangesRead;
 use recording::Step;
 use recording::Turn;
+use recording::UnknownNames;
 use recording::Variables;
 ghost use mathlib.Core.Path.{_≡_};
 ghost use Prim.Native.Nat.{_+_, _≤_, _<_, _^_};
@@ -138,9 +139,10 @@ fn judge_body(
     }
 }
 
-// The run of a recording against a table: document 01, "What the monitor does".
-pub fn run(table: &[u8], recording: &[u8]) -> Report
-    ensures { λ r. ⌜ s.told r ≡ s.runOf (now (table .entry)) (now (recording .entry)) ⌝ }
+// The run of a recording against a table, with a choice what becomes of names that the table lacks: document 01, "What the monitor
+// does", and document 02, M-103.
+pub fn run(table: &[u8], recording: &[u8], unknown: UnknownNames) -> Report
+    ensures { λ r. ⌜ s.told r ≡ s.runOf (now (table .entry)) (now (recording .entry)) unknown ⌝ }
 {
     let read = table::read_table(table);
     let outcome = read.outcome;
@@ -156,7 +158,7 @@ pub fn run(table: &[u8], recording: &[u8]) -> Report
     }
     let records = read.table.records;
     let configuration = constraint::start_words(records);
-    let header = recording::read_header(table, read.table.names, recording);
+    let header = recording::read_header(table, read.table.names, recording, unknown);
     let opened = header.outcome;
     if let Check::Refused(refusal) = opened {
         return report(

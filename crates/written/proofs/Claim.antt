@@ -1,31 +1,35 @@
 -- A recording that may be written is read as the steps that it was written from: its bytes, its header, its body; and the example of Claim
--- may be written, so the conditions can be met. Assumes nothing.
+-- may be written, so the conditions can be met. And a variable whose name the table lacks is refused. Assumes nothing.
 use Prim.Native.Nat.{ℕ, zero, suc, _+_, _≤_, _<_}
 use mathlib.Core.Path.{_≡_, refl, sym, ap, _∙_}
 use mathlib.Core.List.{List, [], _∷_, _++_, append-assoc, append-nil}
 use mathlib.Core.Bool.{Bool, true, false, not, _&&_, or-true}
 use native.Mathlib.Omega.{arith}
-use borrow.Author.Tests.{le-leb}
+use borrow.Author.Tests.{le-leb, ne-eqb}
 use lib.Dec.{eqb}
 use lib.ListN.{length, drop, length-append}
 use lib.Seq.{drop-at}
-use Rattle.limit.specs.Checked.{passed}
+use Rattle.limit.specs.Checked.{passed, stopped}
+use Rattle.limit.specs.declared.Limit.the-variants.{VariableUnknown}
 use Rattle.text.specs.Ascii.{ascii}
 use Rattle.text.specs.Bytes.{parting, allBytes, sameBytes}
 use Rattle.text.specs.Digits.{digits, digitsOf}
 use Rattle.text.proofs.Bytes.{equal-same, differ-same, all-append, all-to}
 use Rattle.text.proofs.Decimals.{digits-are}
-use Rattle.grammar.specs.declared.Found.the-variants.{At}
+use Rattle.grammar.specs.declared.Found.the-variants.{At, Nothing}
 use Rattle.recording.specs.BeforeWords.{recorded}
 use Rattle.recording.specs.Body.{unmarked, closing, onward, reading}
+use Rattle.recording.specs.Header as recording
 use Rattle.recording.specs.Header.{words, opened}
-use Rattle.recording.specs.Variables.{Variable, Naming, withId, hasClock, clockAgain, allDeclared}
+use Rattle.recording.specs.Variables.{Variable, ignored, refusesUnknown, Naming, withId, hasClock, clockAgain, allDeclared}
+use Rattle.recording.specs.declared.UnknownNames.{UnknownNames}
+use Rattle.recording.specs.declared.UnknownNames.the-variants.{Refused, Ignored}
 use Rattle.recording.proofs.BeforeWords.{before-words}
-use Rattle.written.specs.Claim.{variables, asRead, Each, Apart, graphic, Graphic, is-0, is-1, is-x, Writable, WrittenIsRead, byName}
+use Rattle.written.specs.Claim.{variables, asRead, Each, Apart, graphic, Graphic, is-0, is-1, is-x, Declarable, Writable, WrittenIsRead, Misnamed, MisnamedIsRefused, byName}
 use Rattle.written.specs.Layout.{WrittenVariable, WrittenTick, WrittenStep, line, texts, declarationWords, declaration, definitionsEnd, mark, tickAt, variableAt, step, header, written, two, three}
 use Rattle.written.proofs.BodyRead.{Plain, plain, Known, steps-read}
 use Rattle.written.proofs.EachLaws.{each-all, each-to, each-with, each-at}
-use Rattle.written.proofs.HeaderRead.{graphic-word, declarations-read, end-read}
+use Rattle.written.proofs.HeaderRead.{graphic-word, declarations-read, misnamed-read, end-read}
 use Rattle.written.proofs.LineLaws.{left-behind}
 
 -- ---- the bytes: each line has recorded bytes alone
@@ -92,6 +96,23 @@ none-yet k = go (eqb k 32)
     go true = refl
     go false = refl
 
+-- 38 lets the names pass: all are the table's, or the others are ignored
+all-known : (named : List ℕ → ℕ) (vs : List WrittenVariable) (u : UnknownNames) → (u ≡ Refused → Each (λ v. named (v .name) ≡ ignored → ⊥) vs) → Each (λ v. refusesUnknown u (named (v .name)) ≡ false) vs
+all-known named vs Refused h = each-to vs (λ v k. ne-eqb (named (v .name)) ignored k) (h refl)
+all-known named vs Ignored h = each-all vs (λ v. refl)
+
+-- variables that may be declared, and what follows them
+module _ (g : Naming) (vs : List WrittenVariable) (ok : Declarable g vs) where
+  pub variables-recorded : Recorded (texts declaration vs)
+  variables-recorded = texts-recorded declaration vs (each-with vs declaration-recorded (ok .ids) (ok .names))
+
+  pub variables-read : (r s : List ℕ) → drop 0 r ≡ texts declaration vs ++ s → Recorded r → length r ≤ 65_536
+      → opened g r ≡ recording.header g r (variables (g .named) vs) (words r (0 + length (texts declaration vs)))
+  variables-read r s d h fits =
+      before-words .header g r fits h
+      ∙ declarations-read g r vs [] 0 s d (ok .ids) (ok .short) (ok .names) (ok .distinct) (ok .once)
+      (each-all vs (λ v. unfold withId in refl)) (each-all vs (λ v. none-yet (g .named (v .name)))) (all-known (g .named) vs (g .unknown) (ok .known)) (omega (arith, ok .few))
+
 -- ---- the whole
 module _ (g : Naming) (vs : List WrittenVariable) (ss : List WrittenStep) (ok : Writable g vs ss) where
   abbrev text : List ℕ
@@ -104,7 +125,7 @@ module _ (g : Naming) (vs : List WrittenVariable) (ss : List WrittenStep) (ok : 
   body = texts (step vs) ss
 
   id-at : (i : ℕ) → i < length vs → Graphic (variableAt vs i .id)
-  id-at i h = each-at (record { id = []; name = [] }) (λ v. Graphic (v .id)) vs i (ok .ids) h
+  id-at i h = each-at (record { id = []; name = [] }) (λ v. Graphic (v .id)) vs i (ok .declarations .ids) h
 
   -- the value and the variable of each tick
   abbrev Ticks : (i : WrittenTick) → Type 0
@@ -116,11 +137,11 @@ module _ (g : Naming) (vs : List WrittenVariable) (ss : List WrittenStep) (ok : 
   known : (i : WrittenTick) → Ticks i → Known (g .named) vs us text i
   known i h =
       let v = variableAt vs (i .variable) in
-      let short : length (v .id) ≤ 4 = each-at (record { id = []; name = [] }) (λ u. length (u .id) ≤ 4) vs (i .variable) (ok .short) (h .1) in
+      let short : length (v .id) ≤ 4 = each-at (record { id = []; name = [] }) (λ u. length (u .id) ≤ 4) vs (i .variable) (ok .declarations .short) (h .1) in
       record {
         plain = h .0;
         word = graphic-word (v .id) (id-at (i .variable) (h .1));
-        found = rw (le-leb (length (v .id)) 4 short) (found-at (g .named) vs (i .variable) (h .1) (ok .distinct));
+        found = rw (le-leb (length (v .id)) 4 short) (found-at (g .named) vs (i .variable) (h .1) (ok .declarations .distinct));
       }
 
   step-recorded : (s : WrittenStep) → Each Ticks (s .ticks) → Recorded (step vs s)
@@ -131,7 +152,7 @@ module _ (g : Naming) (vs : List WrittenVariable) (ss : List WrittenStep) (ok : 
   text-recorded : Recorded text
   text-recorded =
       all-append recorded (header vs) body
-      (all-append recorded (texts declaration vs) definitionsEnd (texts-recorded declaration vs (each-with vs declaration-recorded (ok .ids) (ok .names))) end-recorded)
+      (all-append recorded (texts declaration vs) definitionsEnd (variables-recorded g vs (ok .declarations)) end-recorded)
       (texts-recorded (step vs) ss (each-to ss step-recorded ticks))
 
   declarations-left : drop 0 text ≡ texts declaration vs ++ (definitionsEnd ++ body)
@@ -148,9 +169,7 @@ module _ (g : Naming) (vs : List WrittenVariable) (ss : List WrittenStep) (ok : 
 
   header-read : opened g text ≡ passed (record { variables = us; body = words text (length (header vs)) })
   header-read =
-      before-words .header g text (ok .fits) text-recorded
-      ∙ declarations-read g text vs [] 0 (definitionsEnd ++ body) declarations-left (ok .ids) (ok .short) (ok .names) (ok .distinct) (ok .once)
-      (each-all vs (λ v. unfold withId in refl)) (each-all vs (λ v. none-yet (g .named (v .name)))) (omega (arith, ok .few))
+      variables-read g vs (ok .declarations) text (definitionsEnd ++ body) declarations-left text-recorded (ok .fits)
       ∙ end-read g text us (0 + length (texts declaration vs)) body end-left (all-clocks us (g .count) (ok .covers))
       ∙ ap (λ (i : ℕ). passed (record { variables = us; body = words text i })) body-at
 
@@ -164,6 +183,30 @@ module _ (g : Naming) (vs : List WrittenVariable) (ss : List WrittenStep) (ok : 
 pub written-is-read : WrittenIsRead
 written-is-read = is-read
 
+-- ---- a name that the table lacks
+
+without : (named : List ℕ → ℕ) (w : List ℕ) (vs : List WrittenVariable) → Each (λ u. u .id ≡ w → ⊥) vs → withId (variables named vs) w ≡ Nothing
+unfolding withId Each
+without named w [] h = refl
+without named w (v ∷ vs) h = rw (differ-same (v .id) w (h .0)) (without named w vs (h .1))
+
+pub misnamed-is-refused : MisnamedIsRefused
+unfolding onward
+misnamed-is-refused g vs v later ok =
+    let front = texts declaration vs in
+    let text = front ++ (declaration v ++ later) in
+    let us = variables (g .named) vs in
+    let whole : Recorded text = all-append recorded front (declaration v ++ later) (variables-recorded g vs (ok .declarations)) (all-append recorded (declaration v) later (declaration-recorded v (ok .id) (ok .name)) (ok .bytes)) in
+    let once : clockAgain us (g .named (v .name)) ≡ false = rw (ok .lacks) in
+    let unknown : refusesUnknown (g .unknown) (g .named (v .name)) ≡ true = rw (ok .refuses, ok .lacks) in
+    let at : 0 + length front ≡ length front = omega arith in
+    let header-stops : opened g text ≡ stopped VariableUnknown (length front) =
+    variables-read g vs (ok .declarations) text (declaration v ++ later) refl whole (ok .fits)
+    ∙ misnamed-read g text us v (0 + length front) later (left-behind text 0 front (declaration v ++ later) refl) (ok .id) (ok .short) (ok .name) (without (g .named) (v .id) vs (ok .distinct)) once unknown
+    ∙ ap (λ (i : ℕ). stopped VariableUnknown i) at
+    in
+    rw header-stops
+
 -- ---- the example may be written
 
 covered : (k : ℕ) → k < 2 → hasClock (variables byName two) k ≡ true
@@ -172,23 +215,48 @@ covered zero h = refl
 covered (suc zero) h = refl
 covered (suc (suc k)) h = absurd (omega arith)
 
-two-ids : ascii "!" ≡ ascii "\"\"" → ⊥
-two-ids e = let z : _≡_ {A = ℕ} 1 2 = ap (λ (l : List ℕ). length l) e in omega arith
+head-differs : {a b : ℕ} {v w : List ℕ} → a ∷ v ≡ b ∷ w → (a ≡ b → ⊥) → ⊥
+head-differs e h = h cc
 
-pub three-may-be-written : Writable (record { named = byName; count = 2 }) two three
-unfolding Each Apart allBytes sameBytes line texts digits digitsOf
-three-may-be-written = record {
+pub two-may-be-declared : (u : UnknownNames) → Declarable (record { named = byName; count = 2; unknown = u }) two
+unfolding Each Apart allBytes sameBytes
+two-may-be-declared u = record {
   ids = (record { some = omega arith; bytes = refl }, (record { some = omega arith; bytes = refl }, tt));
   short = (omega arith, (omega arith, tt));
-  distinct = ((two-ids, tt), (tt, tt));
+  distinct = ((λ e. head-differs e (λ z. omega (arith, z)), tt), (tt, tt));
   names = (record { some = omega arith; bytes = refl }, (record { some = omega arith; bytes = refl }, tt));
   once = ((λ e. absurd (omega (arith, e)), tt), (tt, tt));
-  covers = covered;
+  known = λ e. (λ z. omega (arith, z), (λ z. omega (arith, z), tt));
   few = omega arith;
+}
+
+pub three-may-be-written : (u : UnknownNames) → Writable (record { named = byName; count = 2; unknown = u }) two three
+unfolding Each Apart allBytes sameBytes line texts digits digitsOf
+three-may-be-written u = record {
+  declarations = two-may-be-declared u;
+  covers = covered;
   times = (omega arith, (omega arith, (omega arith, tt)));
   rise = ((omega arith, (omega arith, tt)), ((omega arith, tt), (tt, tt)));
   values = ((is-1, tt), (tt, ((is-x, (is-0, tt)), tt)));
   declared = ((omega arith, tt), (tt, ((omega arith, (omega arith, tt)), tt)));
   single = ((tt, tt), (tt, (((λ e. absurd (omega (arith, e)), tt), (tt, tt)), tt)));
+  fits = omega arith;
+}
+
+-- and behind its variables one may be misnamed
+abbrev lamp : WrittenVariable
+lamp = record { id = ascii "%"; name = ascii "lamp" }
+
+pub lamp-is-misnamed : Misnamed (record { named = byName; count = 2; unknown = Refused }) two lamp []
+unfolding Each allBytes sameBytes line texts
+lamp-is-misnamed = record {
+  declarations = two-may-be-declared Refused;
+  id = record { some = omega arith; bytes = refl };
+  short = omega arith;
+  distinct = (λ e. head-differs e (λ z. omega (arith, z)), (λ e. head-differs e (λ z. omega (arith, z)), tt));
+  name = record { some = omega arith; bytes = refl };
+  lacks = refl;
+  refuses = refl;
+  bytes = refl;
   fits = omega arith;
 }

@@ -1,4 +1,4 @@
--- Declarations that were written are read as the variables. Assumes nothing.
+-- Declarations that were written are read as the variables, up to one with a name that is refused. Assumes nothing.
 use Prim.Native.Nat.{ℕ, _+_, _≤_, _<_}
 use mathlib.Core.Path.{_≡_, refl, sym, ap, _∙_}
 use mathlib.Core.List.{List, [], _∷_, _++_, append-assoc, append-nil, map}
@@ -7,7 +7,8 @@ use native.Mathlib.Omega.{arith}
 use borrow.Author.Tests.{le-leb, ne-eqb, eqb-false, leb-true}
 use lib.Dec.{leb, eqb}
 use lib.ListN.{length, drop, length-append}
-use Rattle.limit.specs.Checked.{passed, andThen}
+use Rattle.limit.specs.Checked.{passed, stopped, andThen}
+use Rattle.limit.specs.declared.Limit.the-variants.{VariableUnknown}
 use Rattle.constraint.proofs.Booleans.{and-l}
 use Rattle.text.specs.Ascii.{ascii}
 use Rattle.text.specs.Bytes.{allBytes, sameBytes}
@@ -16,9 +17,9 @@ use Rattle.text.specs.declared.Span.{Span}
 use Rattle.text.proofs.Bytes.{all-to, differ-same}
 use Rattle.grammar.specs.declared.Found.the-variants.{At, Nothing}
 use Rattle.recording.specs.Header.{words, says, commandOf, shaped, header, declaring}
-use Rattle.recording.specs.Variables.{Variable, Naming, withId, lookUp, isDeclared, hasClock, clockAgain, allDeclared}
+use Rattle.recording.specs.Variables.{Variable, refusesUnknown, Naming, withId, lookUp, isDeclared, hasClock, clockAgain, allDeclared}
 use Rattle.recording.specs.declared.Command.the-variants.{Declaration, Definitions}
-use Rattle.recording.proofs.HeaderLaws.{declare-more, close-all}
+use Rattle.recording.proofs.HeaderLaws.{declare-unknown, declare-more, close-all}
 use Rattle.written.specs.Claim.{variables, Each, Apart, graphic, Graphic, Differ}
 use Rattle.written.specs.Layout.{WrittenVariable, texts, declarationWords, declaration, definitionsEnd}
 use Rattle.written.proofs.EachLaws.{each-with}
@@ -107,41 +108,66 @@ look-none us w e = go (leb (length w) 4)
 -- ---- declarations
 module _ (g : Naming) (r : List ℕ) where
   -- six words that declare a variable
-  module _ (us : List Variable) (v : WrittenVariable) (a b c d e f : Span) (later : List Span) (q : map (bytesOf r) (a ∷ b ∷ c ∷ d ∷ e ∷ f ∷ []) ≡ ascii "$var" ∷ declarationWords v) where
-    declares : length (v .id) ≤ 4 → withId us (v .id) ≡ Nothing → clockAgain us (g .named (v .name)) ≡ false → length us < 128
-        → header g r us (a ∷ b ∷ c ∷ d ∷ e ∷ f ∷ later) ≡ header g r (us ++ variables (g .named) (v ∷ [])) later
-    unfolding header declaring andThen
-    declares short new once few =
-        let qa : bytesOf r a ≡ ascii "$var" = cc in
+  module _ (us : List Variable) (v : WrittenVariable) (a b c d e f : Span) (later : List Span) (q : map (bytesOf r) (a ∷ b ∷ c ∷ d ∷ e ∷ f ∷ []) ≡ ascii "$var" ∷ declarationWords v)
+      (short : length (v .id) ≤ 4) (new : withId us (v .id) ≡ Nothing) (once : clockAgain us (g .named (v .name)) ≡ false) where
+    command-is : commandOf (bytesOf r a) ≡ Declaration
+    command-is = let qa : bytesOf r a ≡ ascii "$var" = cc in rw (qa, is-var)
+
+    id-is : bytesOf r d ≡ v .id
+    id-is = cc
+
+    name-is : bytesOf r e ≡ v .name
+    name-is = cc
+
+    shape-is : shaped r b c d f ≡ true
+    shape-is =
         let qb : bytesOf r b ≡ ascii "event" = cc in
         let qc : bytesOf r c ≡ ascii "1" = cc in
-        let qd : bytesOf r d ≡ v .id = cc in
-        let qe : bytesOf r e ≡ v .name = cc in
         let qf : bytesOf r f ≡ ascii "$end" = cc in
-        let s : shaped r b c d f ≡ true = rw (qb, qc, qd, qf, says-event, says-one, says-end, le-leb (length (v .id)) 4 short) in
-        let t : (isDeclared (lookUp us (bytesOf r d)) || clockAgain us (g .named (bytesOf r e))) ≡ false = rw (qd, qe, look-none us (v .id) new, once) in
-        rw (qa, is-var, declare-more g r (a .start) us b c d e f s t few, qd, qe)
+        rw (qb, qc, id-is, qf, says-event, says-one, says-end, le-leb (length (v .id)) 4 short)
+
+    not-twice : (isDeclared (lookUp us (bytesOf r d)) || clockAgain us (g .named (bytesOf r e))) ≡ false
+    not-twice = rw (id-is, name-is, look-none us (v .id) new, once)
+
+    declares : refusesUnknown (g .unknown) (g .named (v .name)) ≡ false → length us < 128
+        → header g r us (a ∷ b ∷ c ∷ d ∷ e ∷ f ∷ later) ≡ header g r (us ++ variables (g .named) (v ∷ [])) later
+    unfolding header declaring andThen
+    declares known few = rw (command-is, declare-more g r (a .start) us b c d e f shape-is not-twice (rw name-is known) few, id-is, name-is)
+
+    misnames : refusesUnknown (g .unknown) (g .named (v .name)) ≡ true → header g r us (a ∷ b ∷ c ∷ d ∷ e ∷ f ∷ later) ≡ stopped VariableUnknown (a .start)
+    unfolding header declaring andThen
+    misnames unknown = rw (command-is, declare-unknown g r (a .start) us b c d e f shape-is not-twice (rw name-is unknown))
 
   -- us are the variables so far, which have neither the ids nor the clocks of those that follow
   pub declarations-read : (vs : List WrittenVariable) (us : List Variable) (at : ℕ) (s : List ℕ) → drop at r ≡ texts declaration vs ++ s
       → Each (λ v. Graphic (v .id)) vs → Each (λ v. length (v .id) ≤ 4) vs → Each (λ v. Graphic (v .name)) vs
       → Apart (λ u v. u .id ≡ v .id → ⊥) vs → Apart (λ u v. Differ (g .named (u .name)) (g .named (v .name))) vs
-      → Each (λ v. withId us (v .id) ≡ Nothing) vs → Each (λ v. clockAgain us (g .named (v .name)) ≡ false) vs → length us + length vs ≤ 128
+      → Each (λ v. withId us (v .id) ≡ Nothing) vs → Each (λ v. clockAgain us (g .named (v .name)) ≡ false) vs
+      → Each (λ v. refusesUnknown (g .unknown) (g .named (v .name)) ≡ false) vs → length us + length vs ≤ 128
       → header g r us (words r at) ≡ header g r (us ++ variables (g .named) vs) (words r (at + length (texts declaration vs)))
   unfolding texts Each Apart
-  declarations-read [] us at s d ids sh nm di on new once few = let z : at + 0 ≡ at = omega arith in rw (z, append-nil us)
-  declarations-read (v ∷ vs) us at s d ids sh nm di on new once few =
+  declarations-read [] us at s d ids sh nm di on new once known few = let z : at + 0 ≡ at = omega arith in rw (z, append-nil us)
+  declarations-read (v ∷ vs) us at s d ids sh nm di on new once known few =
       let u : Variable = record { id = v .id; clock = g .named (v .name) } in
       let e = first-text r at declaration v vs s d in
       let m : length (us ++ u ∷ []) + length vs ≤ 128 = omega (arith, length-append us (u ∷ [])) in
       ap (header g r us) (line-words r (declarationWords v) (ascii "$var") at (texts declaration vs ++ s) (declaration-words v (ids .0) (nm .0)) e)
-      ∙ declares us v _ _ _ _ _ _ (words r (at + length (declaration v))) (line-bytes r (declarationWords v) (ascii "$var") at (texts declaration vs ++ s) e) (sh .0) (new .0) (once .0) (omega arith)
+      ∙ declares us v _ _ _ _ _ _ (words r (at + length (declaration v))) (line-bytes r (declarationWords v) (ascii "$var") at (texts declaration vs ++ s) e) (sh .0) (new .0) (once .0) (known .0) (omega arith)
       ∙ declarations-read vs (us ++ u ∷ []) (at + length (declaration v)) s (other-texts r at declaration v vs s d) (ids .1) (sh .1) (nm .1) (di .1) (on .1)
       (each-with vs (λ w p k. with-more us u (w .id) p (differ-same (v .id) (w .id) k)) (new .1) (di .0))
       (each-with vs (λ w p k. again-more us u (g .named (w .name)) p k) (once .1) (on .0))
+      (known .1)
       m
       ∙ ap (λ (j : ℕ). header g r ((us ++ u ∷ []) ++ variables (g .named) vs) (words r j)) (behind-texts r at declaration v vs s d)
       ∙ ap (λ (x : List Variable). header g r x (words r (at + length (texts declaration (v ∷ vs))))) (append-assoc us (u ∷ []) (variables (g .named) vs))
+
+  -- a variable more, with a name that the table lacks
+  pub misnamed-read : (us : List Variable) (v : WrittenVariable) (at : ℕ) (s : List ℕ) → drop at r ≡ declaration v ++ s
+      → Graphic (v .id) → length (v .id) ≤ 4 → Graphic (v .name) → withId us (v .id) ≡ Nothing → clockAgain us (g .named (v .name)) ≡ false
+      → refusesUnknown (g .unknown) (g .named (v .name)) ≡ true → header g r us (words r at) ≡ stopped VariableUnknown at
+  misnamed-read us v at s d id short name new once unknown =
+      ap (header g r us) (line-words r (declarationWords v) (ascii "$var") at s (declaration-words v id name) d)
+      ∙ misnames us v _ _ _ _ _ _ (words r (at + length (declaration v))) (line-bytes r (declarationWords v) (ascii "$var") at s d) short new once unknown
 
   -- the end of the header
   closes : (us : List Variable) (a b : Span) (later : List Span) → map (bytesOf r) (a ∷ b ∷ []) ≡ ascii "$enddefinitions" ∷ ascii "$end" ∷ [] → allDeclared us (g .count) ≡ true

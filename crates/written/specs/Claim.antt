@@ -1,19 +1,22 @@
--- The claim: a recording that may be written is read as the steps that it was written from, with these ticks and times, and ends with the
--- end. g is what the table says of names. Assumes nothing.
+-- The claims: a recording that may be written is read as the steps that it was written from, with these ticks and times, and ends with the
+-- end; and a variable whose name the table lacks is refused, where such are. g is what the table says of names. Assumes nothing.
 use mathlib.Core.Path.{_≡_, refl}
 use mathlib.Core.Bool.{Bool, true, cond, _&&_}
-use mathlib.Core.List.{List, [], _∷_, map}
+use mathlib.Core.List.{List, [], _∷_, _++_, map}
 use Prim.Native.Nat.{ℕ, _+_, _^_, _≤_, _<_}
 use lib.Dec.{leb}
 use lib.ListN.{length}
+use Rattle.limit.specs.declared.Limit.the-variants.{VariableUnknown}
 use Rattle.constraint.specs.Ticks.{none, addingAll, number}
 use Rattle.text.specs.Ascii.{ascii}
 use Rattle.text.specs.Bytes.{allBytes, sameBytes}
 use Rattle.text.specs.Digits.{digits, digitsOf}
-use Rattle.recording.specs.Body.{Reading, ended, reading}
+use Rattle.recording.specs.BeforeWords.{recorded}
+use Rattle.recording.specs.Body.{Reading, ended, refusedAt, reading}
 use Rattle.recording.specs.Variables.{Variable, Naming, hasClock, ignored}
 use Rattle.recording.specs.declared.Step.{Step}
-use Rattle.written.specs.Layout.{WrittenVariable, WrittenTick, WrittenStep, line, texts, variableAt, step, header, written, two, three}
+use Rattle.recording.specs.declared.UnknownNames.the-variants.{Refused}
+use Rattle.written.specs.Layout.{WrittenVariable, WrittenTick, WrittenStep, line, texts, declaration, variableAt, step, header, written, two, three}
 
 -- ---- what reading is to give
 
@@ -74,16 +77,22 @@ pub data Value : ℕ → Type 0 where
 abbrev pub Differ : ℕ → ℕ → Type 0
 Differ j k = j ≡ k → j ≡ ignored
 
-pub record Writable (g : Naming) (vs : List WrittenVariable) (ss : List WrittenStep) : Type 0 where
+pub record Declarable (g : Naming) (vs : List WrittenVariable) : Type 0 where
   -- ids have 1 to 4 bytes and are distinct
   pub ids : Each (λ v. Graphic (v .id)) vs
   pub short : Each (λ v. length (v .id) ≤ 4) vs
   pub distinct : Apart (λ u v. u .id ≡ v .id → ⊥) vs
-  -- the names cover the table's clocks, once each
+  -- no clock of the table is named twice
   pub names : Each (λ v. Graphic (v .name)) vs
   pub once : Apart (λ u v. Differ (g .named (u .name)) (g .named (v .name))) vs
-  pub covers : (k : ℕ) → k < g .count → hasClock (variables (g .named) vs) k ≡ true
+  -- document 02, M-103: where a name that the table lacks is refused, all are the table's
+  pub known : g .unknown ≡ Refused → Each (λ v. g .named (v .name) ≡ ignored → ⊥) vs
   pub few : length vs ≤ 128
+
+pub record Writable (g : Naming) (vs : List WrittenVariable) (ss : List WrittenStep) : Type 0 where
+  pub declarations : Declarable g vs
+  -- the names cover the table's clocks
+  pub covers : (k : ℕ) → k < g .count → hasClock (variables (g .named) vs) k ≡ true
   -- times rise
   pub times : Each (λ s. s .time < 2 ^ 64) ss
   pub rise : Apart (λ s t. s .time < t .time) ss
@@ -95,6 +104,28 @@ pub record Writable (g : Naming) (vs : List WrittenVariable) (ss : List WrittenS
 
 abbrev pub WrittenIsRead : Type 0
 WrittenIsRead = (g : Naming) (vs : List WrittenVariable) (ss : List WrittenStep) → Writable g vs ss → reading g (written vs ss) ≡ asRead (g .named) vs ss
+
+-- ---- a name that the table lacks: document 02, M-103
+
+-- behind variables that may be declared, one with an id of its own and a name that the table lacks, where such are refused
+pub record Misnamed (g : Naming) (vs : List WrittenVariable) (v : WrittenVariable) (later : List ℕ) : Type 0 where
+  pub declarations : Declarable g vs
+  pub id : Graphic (v .id)
+  pub short : length (v .id) ≤ 4
+  pub distinct : Each (λ u. u .id ≡ v .id → ⊥) vs
+  pub name : Graphic (v .name)
+  pub lacks : g .named (v .name) ≡ ignored
+  pub refuses : g .unknown ≡ Refused
+  -- whatever stands behind it passes 30 and 31
+  pub bytes : allBytes recorded later ≡ true
+  pub fits : length (texts declaration vs ++ (declaration v ++ later)) ≤ 65_536
+
+-- it is 38, at the offset of its `$var`, and no step is read
+abbrev pub MisnamedIsRefused : Type 0
+MisnamedIsRefused =
+    (g : Naming) (vs : List WrittenVariable) (v : WrittenVariable) (later : List ℕ)
+    → Misnamed g vs v later
+    → reading g (texts declaration vs ++ (declaration v ++ later)) ≡ record { steps = []; ending = refusedAt VariableUnknown (length (texts declaration vs)) }
 
 -- ---- the example of Layout, with a table of the two clocks
 
@@ -108,3 +139,8 @@ three-read : asRead byName two three .steps
     ∷ []
 unfolding readSteps line texts digits digitsOf sameBytes
 three-read = refl
+
+-- behind its two variables, one that is misnamed stands at 49
+misnamed-at : length (texts declaration two) ≡ 49
+unfolding texts line
+misnamed-at = refl

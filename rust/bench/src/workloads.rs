@@ -60,7 +60,7 @@ pub const WORKLOADS: [&str; 14] = [
 
 /// What the workloads are, for a reader of the table.
 pub const ABOUT: &str = "\
-Runs, by the recording's size in bytes:
+Runs, by the recording's size in bytes; names that the table lacks are ignored:
 - dense: 64 constraints on 32 clocks, every clock ticks in every step
 - wide: 128 variables, most of them not in the table, the changes on those declared last
 - marks: 64 constraints on 32 clocks, marks alone
@@ -362,6 +362,7 @@ impl Input {
                 ccsl::raw::run(
                     black_box(table),
                     black_box(recording),
+                    ccsl::raw::UNKNOWN_IGNORED,
                     &mut answer,
                     &mut words,
                 );
@@ -423,7 +424,11 @@ impl Input {
     pub fn rust(&mut self) -> bool {
         match self {
             Input::Run { table, recording } => {
-                let report = black_box(second_opinion::run(black_box(table), black_box(recording)));
+                let report = black_box(second_opinion::run(
+                    black_box(table),
+                    black_box(recording),
+                    second_opinion::UnknownNames::Ignored,
+                ));
                 report.verdict == second_opinion::Verdict::Accepted
             }
             Input::Read { text, number } => {

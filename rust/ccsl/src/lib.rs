@@ -11,6 +11,21 @@
 //! assert_eq!(report.to_string(), "violated 1 7\nsteps 2\nconfig 0\n");
 //! ```
 //!
+//! A variable whose name the table lacks is refused, with 38, so that a misspelt name is told; or it
+//! is ignored, where that is asked for:
+//!
+//! ```
+//! use ccsl::{run, run_with, UnknownNames};
+//!
+//! let table = b"a precedes b";
+//! let recording = b"$var event 1 ! a $end $var event 1 % b $end $var event 1 & lamp $end
+//!     $enddefinitions $end #0 1! 1& #4 1%";
+//! let refused = "refused 38 44\nsteps 0\nconfig 0\n";
+//! assert_eq!(run(table, recording).to_string(), refused);
+//! let report = run_with(table, recording, UnknownNames::Ignored);
+//! assert_eq!(report.to_string(), "accepted\nsteps 2\nconfig 0\n");
+//! ```
+//!
 //! Or a monitor stands at the table's start words and is moved forward step by step:
 //!
 //! ```
@@ -181,6 +196,17 @@ pub struct Steps(pub u64);
 #[derive(Clone, Copy, Debug, PartialEq, Eq, PartialOrd, Ord, Hash)]
 pub struct Time(pub u64);
 
+/// What becomes of a variable of the recording whose name the table lacks. The order is that of the
+/// header's numbers.
+#[derive(Clone, Copy, Debug, Default, PartialEq, Eq, Hash)]
+pub enum UnknownNames {
+    /// The run is refused, with 38, at the offset of the variable's `$var`.
+    #[default]
+    Refused,
+    /// The variable is ignored.
+    Ignored,
+}
+
 /// How a run ended.
 #[derive(Clone, Copy, Debug, PartialEq, Eq)]
 pub enum Verdict {
@@ -247,11 +273,22 @@ pub fn read_table(text: &[u8]) -> Result<Table, Refusal> {
     })
 }
 
-/// Judges a recording by a table.
+/// Judges a recording by a table; a variable whose name the table lacks is refused, with 38.
 pub fn run(table: &[u8], recording: &[u8]) -> Report {
+    run_with(table, recording, UnknownNames::Refused)
+}
+
+/// Judges a recording by a table, with this choice for variables whose names the table lacks.
+pub fn run_with(table: &[u8], recording: &[u8], unknown: UnknownNames) -> Report {
     let mut answer = [0; raw::RUN_ANSWER];
     let mut configuration = [0; WORDS];
-    done(raw::run(table, recording, &mut answer, &mut configuration));
+    done(raw::run(
+        table,
+        recording,
+        unknown as u32,
+        &mut answer,
+        &mut configuration,
+    ));
     let [outcome, first, second, steps, constraints] = answer;
     let verdict = match outcome {
         raw::ACCEPTED => Verdict::Accepted,
@@ -444,7 +481,7 @@ fn clock(text: &[u8], ends: &[u64]) -> Clock {
     }
 }
 
-/// The lists that this crate hands in always have the right shape.
+/// The lists that this crate hands in always have the right shape, and its choices are the header's.
 fn done(status: u32) {
     assert_eq!(status, raw::DONE, "a list of the wrong shape was handed in");
 }

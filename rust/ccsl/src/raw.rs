@@ -1,7 +1,7 @@
 //! The calls of `include/ccsl_monitor.h` on lent lists: the only place of this crate with `unsafe`.
 //!
-//! Each function here takes every list, of any length and with any numbers in it, and returns the
-//! header's status.
+//! Each function here takes every list, of any length and with any numbers in it, and any other
+//! number, and returns the header's status.
 
 mod header {
     extern "C" {
@@ -10,6 +10,7 @@ mod header {
             table_len: usize,
             recording: *const u8,
             recording_len: usize,
+            unknown: u32,
             answer: *mut u64,
             answer_len: usize,
             words: *mut i64,
@@ -92,6 +93,13 @@ pub const RECORDS_RAGGED: u32 = 5;
 pub const KIND_UNKNOWN: u32 = 6;
 /// [`definition_order`]: `order` has fewer than 32 numbers.
 pub const ORDER_SHORT: u32 = 7;
+/// [`run`]: `unknown` is none of the two choices.
+pub const CHOICE_INVALID: u32 = 8;
+
+/// [`run`]: a variable whose name the table lacks is refused, with 38. The default.
+pub const UNKNOWN_REFUSED: u32 = 0;
+/// [`run`]: such a variable is ignored.
+pub const UNKNOWN_IGNORED: u32 = 1;
 
 /// The first number of an answer: accepted, read, started, listed, or the same place.
 pub const ACCEPTED: u64 = 0;
@@ -123,7 +131,13 @@ pub const CLOCKS: usize = 32;
 pub const WORDS: usize = 64;
 
 /// `ccsl_run`.
-pub fn run(table: &[u8], recording: &[u8], answer: &mut [u64], words: &mut [i64]) -> u32 {
+pub fn run(
+    table: &[u8],
+    recording: &[u8],
+    unknown: u32,
+    answer: &mut [u64],
+    words: &mut [i64],
+) -> u32 {
     // SAFETY: each pointer comes from a slice, so it is not null and valid for its length, and
     // those that are written come from `&mut` slices, which overlap nothing. The call writes inside
     // these lengths and keeps no pointer.
@@ -133,6 +147,7 @@ pub fn run(table: &[u8], recording: &[u8], answer: &mut [u64], words: &mut [i64]
             table.len(),
             recording.as_ptr(),
             recording.len(),
+            unknown,
             answer.as_mut_ptr(),
             answer.len(),
             words.as_mut_ptr(),

@@ -2,7 +2,7 @@
 
 use ccsl::{
     raw, Clock, Clocks, Kind, Monitor, Record, Refusal, SamePlace, StepAnswer, Steps, Time,
-    Verdict, WORDS,
+    UnknownNames, Verdict, WORDS,
 };
 
 const TABLE: &[u8] = b"req strictly precedes ack\ndone clockDef await 2 ack\n";
@@ -165,6 +165,235 @@ fn a_refused_table_prints_config_alone() {
             place: 2
         })
     );
+}
+
+/// What a run by [`TABLE`] prints with unknown names refused, and with unknown names ignored.
+fn both(recording: &str) -> [String; 2] {
+    both_by(TABLE, recording)
+}
+
+fn both_by(table: &[u8], recording: &str) -> [String; 2] {
+    [UnknownNames::Refused, UnknownNames::Ignored]
+        .map(|unknown| ccsl::run_with(table, recording.as_bytes(), unknown).to_string())
+}
+
+/// What a run by [`TABLE`] prints that is refused in the header: the words are the start words.
+fn in_the_header(number: u64, place: u64) -> String {
+    format!("refused {number} {place}\nsteps 0\nconfig 0 2\n")
+}
+
+#[test]
+fn a_name_that_the_table_lacks_is_38_at_its_command() {
+    let recording = String::from_utf8(RECORDING.to_vec()).unwrap();
+    let ignored = "violated 1 9\nsteps 4\nconfig 0 0\n".to_string();
+    assert_eq!(both(&recording), [ignored.clone(), ignored.clone()]);
+    // Before the three declarations of 24, 24 and 25 bytes, between them, and behind them.
+    for place in [0, 24, 48, 73] {
+        let (before, behind) = recording.split_at(place);
+        let more = format!("{before}$var event 1 & lamp $end {behind} 1& 1&");
+        assert_eq!(
+            both(&more),
+            [in_the_header(38, place as u64), ignored.clone()]
+        );
+    }
+    let spaced = format!(" \n$comment $var $end\t$var\nevent 1 & lamp $end {recording}");
+    assert_eq!(both(&spaced), [in_the_header(38, 21), ignored]);
+}
+
+#[test]
+fn a_misspelt_name_is_38_and_when_ignored_35() {
+    for name in [
+        "akc", "ACK", "Ack", "acK", "ac", "a", "ackk", "ack_", "_ack", "ack.", "lub", "=", "$end",
+        "(ack)",
+    ] {
+        let misspelt = format!(
+            "$var event 1 ! req $end $var event 1 \" {name} $end \
+             $var event 1 % done $end $enddefinitions $end #0 1!"
+        );
+        let header_end = 24 + (21 + name.len() as u64) + 25;
+        assert_eq!(
+            both(&misspelt),
+            [in_the_header(38, 24), in_the_header(35, header_end)],
+            "{name}"
+        );
+    }
+    let long = format!(
+        "$var event 1 ! req{} $end $enddefinitions $end",
+        "q".repeat(300)
+    );
+    assert_eq!(both(&long)[0], in_the_header(38, 0));
+}
+
+#[test]
+fn the_other_limits_of_a_variable_come_in_their_order() {
+    let cases = [
+        // 36: a variable whose words run out has this refusal and no other.
+        ("$var event 1 ! other", (36, 20), (36, 20)),
+        ("$var event 1 ! other ", (36, 21), (36, 21)),
+        ("$var event 1 ! other $end", (38, 0), (36, 25)),
+        // 33, of the same variable and of one behind it.
+        ("$var wire 1 ! other $end", (33, 0), (33, 0)),
+        ("$var event 2 ! other $end", (33, 0), (33, 0)),
+        ("$var event 1 !!!!! other $end", (33, 0), (33, 0)),
+        ("$var event 1 ! other end", (33, 0), (33, 0)),
+        (
+            "$var event 1 ! other $end $var wire 1 % req $end",
+            (38, 0),
+            (33, 26),
+        ),
+        // 34: an id that was declared before, of the same variable and of one behind it.
+        (
+            "$var event 1 ! req $end $var event 1 ! other $end",
+            (34, 24),
+            (34, 24),
+        ),
+        (
+            "$var event 1 ! req $end $var event 1 % req $end",
+            (34, 24),
+            (34, 24),
+        ),
+        (
+            "$var event 1 ! other $end $var event 1 ! req $end",
+            (38, 0),
+            (34, 26),
+        ),
+        (
+            "$var event 1 ! other $end $var event 1 % other $end $enddefinitions $end",
+            (38, 0),
+            (35, 52),
+        ),
+        // 32, of a command before it and of one behind it.
+        ("$dump $var event 1 ! other $end", (32, 0), (32, 0)),
+        ("$var event 1 ! other $end $dump", (38, 0), (32, 26)),
+        // 31 and 30 come before all words.
+        ("$var event 1 ! other $end \u{7f}", (31, 26), (31, 26)),
+    ];
+    for (recording, refused, ignored) in cases {
+        let expected = [refused, ignored].map(|(number, place)| in_the_header(number, place));
+        assert_eq!(both(recording), expected, "{recording}");
+    }
+    let long = format!("$var event 1 ! other $end{}", " ".repeat(65_536));
+    assert_eq!(both(&long), [30, 30].map(|number| in_the_header(number, 0)));
+}
+
+#[test]
+fn a_129th_variable_is_reached_only_where_unknown_names_are_ignored() {
+    let variables = |count: usize| -> String {
+        (0..count)
+            .map(|number| format!("$var event 1 v{number:03} n $end\n"))
+            .collect()
+    };
+    let refused = |number, place| format!("refused {number} {place}\nsteps 0\nconfig\n");
+    let accepted = "accepted\nsteps 1\nconfig\n".to_string();
+    let end = "$enddefinitions $end #5 1v000 1v000";
+    assert_eq!(
+        both_by(b"", &(variables(128) + end)),
+        [refused(38, 0), accepted]
+    );
+    assert_eq!(
+        both_by(b"", &(variables(129) + end)),
+        [refused(38, 0), refused(37, 3200)]
+    );
+}
+
+#[test]
+fn names_are_compared_whole() {
+    let run = |name: &str| {
+        let recording =
+            format!("$var event 1 ! {name} $end $var event 1 % b $end $enddefinitions $end #0 1!");
+        let [refused, _] = both_by(b"abcdefghijklmnop # b", &recording);
+        refused
+    };
+    assert_eq!(run("abcdefghijklmnop"), "accepted\nsteps 1\nconfig 0\n");
+    for name in [
+        "abcdefghijklmno",
+        "abcdefghijklmnopq",
+        "abcdefghijklmnopabcdefghijklmnop",
+        "abcdefghijklmnoq",
+        "abcdefghijklmnoP",
+        "abcdefg_ijklmnop",
+        "bbcdefghijklmnop",
+        "abcdefgh",
+        "ijklmnop",
+    ] {
+        let refused = "refused 38 0\nsteps 0\nconfig 0\n";
+        assert_eq!(run(name), refused, "{name}");
+    }
+}
+
+#[test]
+fn as_many_names_are_known_as_a_table_can_have() {
+    let table: String = (0..16)
+        .map(|i| format!("c{:02} # c{:02}\n", 2 * i, 2 * i + 1))
+        .collect();
+    let recording = |count: usize| -> String {
+        let variables: String = (0..count)
+            .map(|i| format!("$var event 1 v{i:02} c{i:02} $end\n"))
+            .collect();
+        variables + "$enddefinitions $end #0 1v31"
+    };
+    let config = "config".to_string() + &" 0".repeat(16);
+    let accepted = format!("accepted\nsteps 1\n{config}\n");
+    let refused = format!("refused 38 832\nsteps 0\n{config}\n");
+    assert_eq!(
+        both_by(table.as_bytes(), &recording(32)),
+        [accepted.as_str(), &accepted]
+    );
+    assert_eq!(
+        both_by(table.as_bytes(), &recording(33)),
+        [refused, accepted]
+    );
+}
+
+#[test]
+fn names_in_parentheses_are_known() {
+    let recording = "$var event 1 ! a $end $var event 1 % b $end $var event 1 & c $end \
+        $enddefinitions $end #3 1! 1%";
+    let accepted = "accepted\nsteps 1\nconfig 0 1\n";
+    assert_eq!(
+        both_by(b"(a lub b) precedes c", recording),
+        [accepted, accepted]
+    );
+}
+
+#[test]
+fn by_an_empty_table_every_variable_is_38() {
+    let accepted = "accepted\nsteps 1\nconfig\n";
+    for table in [&b""[..], b" ", b"\n  \n"] {
+        assert_eq!(
+            both_by(table, "$var event 1 ! a $end $enddefinitions $end #0 1!"),
+            ["refused 38 0\nsteps 0\nconfig\n", accepted]
+        );
+        assert_eq!(
+            both_by(table, "$enddefinitions $end #0"),
+            [accepted, accepted]
+        );
+    }
+}
+
+#[test]
+fn a_refused_table_comes_before_unknown_names() {
+    let refused = "refused 15 1\nsteps 0\nconfig\n";
+    assert_eq!(
+        both_by(b"a = a", "$var event 1 ! other $end $enddefinitions $end"),
+        [refused, refused]
+    );
+}
+
+#[test]
+fn unknown_names_are_refused_by_default() {
+    assert_eq!(UnknownNames::default(), UnknownNames::Refused);
+    let other = b"$var event 1 ! other $end $enddefinitions $end";
+    let recordings: [&[u8]; 4] = [RECORDING, other, b"", b"$enddefinitions $end #0"];
+    for table in [TABLE, NESTED, b"", b"a = a"] {
+        for recording in recordings {
+            assert_eq!(
+                ccsl::run(table, recording),
+                ccsl::run_with(table, recording, UnknownNames::Refused)
+            );
+        }
+    }
+    assert_eq!(ccsl::run(TABLE, other).to_string(), in_the_header(38, 0));
 }
 
 #[test]
@@ -857,9 +1086,43 @@ fn too_short_a_list_for_a_run_is_told_and_nothing_written() {
         (5, 63, raw::WORDS_SHORT),
         (5, 0, raw::WORDS_SHORT),
     ] {
-        let (mut a, mut w) = (left(answer), left_words(words));
-        assert_eq!(raw::run(TABLE, RECORDING, &mut a, &mut w), status);
-        assert_eq!((a, w), (left(answer), left_words(words)));
+        for unknown in [raw::UNKNOWN_REFUSED, raw::UNKNOWN_IGNORED, 2, u32::MAX] {
+            let (mut a, mut w) = (left(answer), left_words(words));
+            assert_eq!(raw::run(TABLE, RECORDING, unknown, &mut a, &mut w), status);
+            assert_eq!((a, w), (left(answer), left_words(words)));
+        }
+    }
+}
+
+#[test]
+fn a_choice_that_is_none_is_told_and_nothing_written() {
+    let others = (2..=300).chain((1..32).flat_map(|bit| [1 << bit, 1 << bit | 1]));
+    let texts: [(&[u8], &[u8]); 3] = [(TABLE, RECORDING), (b"a = a", b""), (b"", b"")];
+    for unknown in others.chain([u32::MAX - 1, u32::MAX]) {
+        for (table, recording) in texts {
+            let (mut a, mut w) = (left(7), left_words(66));
+            let status = raw::run(table, recording, unknown, &mut a, &mut w);
+            assert_eq!(status, raw::CHOICE_INVALID, "{unknown}");
+            assert_eq!((a, w), (left(7), left_words(66)), "{unknown}");
+        }
+    }
+}
+
+#[test]
+fn a_run_with_an_unknown_name_fills_its_lists() {
+    let recording = [b"$var event 1 & lamp $end ", RECORDING].concat();
+    for (unknown, answer, words) in [
+        (raw::UNKNOWN_REFUSED, [2, 38, 0, 0, 2], [0, 2]),
+        (raw::UNKNOWN_IGNORED, [1, 1, 9, 4, 2], [0, 0]),
+    ] {
+        let (mut a, mut w) = (left(6), left_words(65));
+        assert_eq!(
+            raw::run(TABLE, &recording, unknown, &mut a, &mut w),
+            raw::DONE
+        );
+        assert_eq!((&a[..5], a[5]), (&answer[..], LEFT));
+        assert_eq!((&w[..2], &w[2..64]), (&words[..], &[0; 62][..]));
+        assert_eq!(w[64], LEFT_WORD);
     }
 }
 
@@ -954,10 +1217,15 @@ fn an_unknown_kind_is_told_before_a_refusal() {
 
 #[test]
 fn of_longer_lists_the_rest_is_left_alone() {
-    let (mut a, mut w) = (left(9), left_words(70));
-    assert_eq!(raw::run(TABLE, RECORDING, &mut a, &mut w), raw::DONE);
-    assert_eq!(a, [1, 1, 9, 4, 2, LEFT, LEFT, LEFT, LEFT]);
-    assert_eq!((&w[..64], &w[64..]), (&[0; 64][..], &[LEFT_WORD; 6][..]));
+    for unknown in [raw::UNKNOWN_REFUSED, raw::UNKNOWN_IGNORED] {
+        let (mut a, mut w) = (left(9), left_words(70));
+        assert_eq!(
+            raw::run(TABLE, RECORDING, unknown, &mut a, &mut w),
+            raw::DONE
+        );
+        assert_eq!(a, [1, 1, 9, 4, 2, LEFT, LEFT, LEFT, LEFT]);
+        assert_eq!((&w[..64], &w[64..]), (&[0; 64][..], &[LEFT_WORD; 6][..]));
+    }
 
     let (mut a, mut w) = (left(4), left_words(70));
     assert_eq!(
@@ -1008,10 +1276,15 @@ fn a_refused_table_leaves_its_lists_empty() {
         assert_eq!(a, [2, number, line, 0, 0, 0]);
         assert_eq!((r, n), (vec![0; 384], vec![0; 64]));
 
-        let (mut a, mut w) = (left(5), left_words(64));
-        assert_eq!(raw::run(text, RECORDING, &mut a, &mut w), raw::DONE);
-        assert_eq!(a, [2, number, line, 0, 0]);
-        assert_eq!(w, [0; 64]);
+        for unknown in [raw::UNKNOWN_REFUSED, raw::UNKNOWN_IGNORED] {
+            let (mut a, mut w) = (left(5), left_words(64));
+            assert_eq!(
+                raw::run(text, RECORDING, unknown, &mut a, &mut w),
+                raw::DONE
+            );
+            assert_eq!(a, [2, number, line, 0, 0]);
+            assert_eq!(w, [0; 64]);
+        }
     }
 }
 

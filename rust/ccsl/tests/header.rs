@@ -2,7 +2,7 @@
 //! and to this crate's constant, each prototype to this crate's declaration and to the Rattle source.
 //! What is in one of them and not in the others is told too.
 
-use ccsl::{raw, KINDS};
+use ccsl::{raw, UnknownNames, KINDS};
 use std::collections::BTreeMap;
 use std::fs;
 use std::path::{Path, PathBuf};
@@ -39,9 +39,14 @@ fn precedes() -> [u64; 6] {
 /// A call with lists of these lengths: its status and its answer.
 type Called = (u32, Vec<u64>);
 
+/// A run of a recording all of whose names the table has.
 fn run(recording: &[u8], answer: usize, words: usize) -> Called {
+    run_with(recording, raw::UNKNOWN_REFUSED, answer, words)
+}
+
+fn run_with(recording: &[u8], unknown: u32, answer: usize, words: usize) -> Called {
     let (mut answer, mut words) = (vec![0; answer], vec![0; words]);
-    let status = raw::run(TABLE, recording, &mut answer, &mut words);
+    let status = raw::run(TABLE, recording, unknown, &mut answer, &mut words);
     (status, answer)
 }
 
@@ -82,6 +87,7 @@ fn measured() -> Vec<(&'static str, u64)> {
     all.extend(outcomes());
     all.extend(sizes());
     all.extend(kinds());
+    all.extend(choices());
     all
 }
 
@@ -127,6 +133,14 @@ fn statuses() -> Vec<(&'static str, u64)> {
         ),
         ("CCSL_KIND_UNKNOWN", status(order(&unknown, LONG, LONG))),
         ("CCSL_ORDER_SHORT", status(order(&one, LONG, 0))),
+        (
+            "CCSL_CHOICE_INVALID",
+            status(run_with(RECORDING, 2, LONG, LONG)),
+        ),
+        (
+            "CCSL_CHOICE_INVALID",
+            status(run_with(b"", u32::MAX, LONG, LONG)),
+        ),
     ]
 }
 
@@ -207,18 +221,43 @@ fn kinds() -> Vec<(&'static str, u64)> {
     kinds
 }
 
-/// This crate's constants under the header's names: those of `raw`, as its source has them, and the
-/// kinds, named as the variants are.
-fn of_this_crate() -> BTreeMap<String, u64> {
+/// The choices with which a variable that the table lacks is refused with 38, and those with which
+/// the run is accepted.
+fn choices() -> Vec<(&'static str, u64)> {
+    let recording = [b"$var event 1 & other $end ", RECORDING].concat();
+    let called = |choice| run_with(&recording, choice, LONG, LONG);
+    let mut choices = Vec::new();
+    for choice in (0..=300).filter(|choice| called(*choice).0 == raw::DONE) {
+        let name = match called(choice).1[..3] {
+            [2, 38, 0] => "CCSL_UNKNOWN_REFUSED",
+            [0, 0, 0] => "CCSL_UNKNOWN_IGNORED",
+            _ => "neither choice",
+        };
+        choices.push((name, u64::from(choice)));
+    }
+    choices
+}
+
+/// This crate's constants under the header's names: those of `raw`, as its source has them, the kinds
+/// and the choices, named as the variants are.
+fn of_this_crate() -> Vec<(String, u64)> {
     let constant = |line: &str| {
         let (name, rest) = line.strip_prefix("pub const ")?.split_once(':')?;
         let value = rest.split_once('=')?.1.trim().trim_end_matches(';');
         Some((format!("CCSL_{name}"), value.parse().ok()?))
     };
     let kind = |kind: ccsl::Kind| (format!("CCSL{}", upper(&format!("{kind:?}"))), kind as u64);
+    let choice = |choice: UnknownNames| {
+        let name = upper(&format!("{choice:?}"));
+        (format!("CCSL_UNKNOWN{name}"), choice as u64)
+    };
+    let choices = [UnknownNames::Refused, UnknownNames::Ignored];
     let of_raw = source("rust/ccsl/src/raw.rs");
     let of_raw = of_raw.lines().filter_map(constant);
-    of_raw.chain(KINDS.map(kind)).collect()
+    of_raw
+        .chain(KINDS.map(kind))
+        .chain(choices.map(choice))
+        .collect()
 }
 
 /// `SubClock` is `_SUB_CLOCK`.
@@ -422,7 +461,9 @@ fn faults(header: &str) -> Vec<String> {
         }
     }
     for (name, _) in &constants {
-        if !own.contains_key(name) || measured.iter().all(|(known, _)| known != name) {
+        if own.iter().all(|(known, _)| known != name)
+            || measured.iter().all(|(known, _)| known != name)
+        {
             faults.push(format!("{name} is held to nothing"));
         }
     }
@@ -459,6 +500,9 @@ fn the_header_is_read() {
     for (name, value) in [
         ("CCSL_RECORDS_RAGGED", 5),
         ("CCSL_ORDER_SHORT", 7),
+        ("CCSL_CHOICE_INVALID", 8),
+        ("CCSL_UNKNOWN_REFUSED", 0),
+        ("CCSL_UNKNOWN_IGNORED", 1),
         ("CCSL_REFUSED", 2),
         ("CCSL_CLOCKS", 32),
         ("CCSL_UPTO", 13),
@@ -486,7 +530,7 @@ fn the_header_is_read() {
 }
 
 #[test]
-fn five_wrong_headers_are_told() {
+fn six_wrong_headers_are_told() {
     let right = header();
     let exchanged = |one: &str, other: &str| {
         let (first, second) = (format!("CCSL_{one} = "), format!("CCSL_{other} = "));
@@ -498,6 +542,7 @@ fn five_wrong_headers_are_told() {
         exchanged("LUB", "GLB"),
         exchanged("RECORDS_SHORT", "NAMES_SHORT"),
         exchanged("ACCEPTED", "VIOLATED"),
+        exchanged("UNKNOWN_REFUSED", "UNKNOWN_IGNORED"),
         changed(&right, "CCSL_RECORD = 6", "CCSL_RECORD = 5"),
         changed(&right, "CCSL_WORDS = 64", "CCSL_WORDS = 32"),
     ];
@@ -537,6 +582,8 @@ fn other_prototypes_are_told() {
         ("const uint8_t *recording", "uint8_t *recording"),
         ("const int64_t *first", "const uint64_t *first"),
         ("                   uint32_t ticks,\n", ""),
+        ("                  uint32_t unknown,\n", ""),
+        ("uint32_t unknown,", "uint8_t unknown,"),
         (
             "\n                   uint32_t named, uint32_t clocks,",
             "\n                   uint32_t clocks, uint32_t named,",

@@ -1,5 +1,7 @@
-//! Each lesson in `examples/` prints what its file `printed` has.
+//! Each lesson in `examples/` prints what its file `printed` has, with unknown names ignored as the
+//! program ignores them, and where it has a file `strict`, prints that with unknown names refused.
 
+use ccsl::UnknownNames;
 use std::fs;
 use std::path::{Path, PathBuf};
 
@@ -18,23 +20,29 @@ fn lessons(folder: &Path) -> Vec<PathBuf> {
     found
 }
 
-/// What is wrong with a lesson, if anything is.
-fn fault(lesson: &Path) -> Option<String> {
+/// What is wrong with a lesson, if anything is: where it does not print what one of its files has.
+fn fault(lesson: &Path, file: &str, unknown: UnknownNames) -> Option<String> {
     let read = |name: &str| {
         fs::read(lesson.join(name)).unwrap_or_else(|e| panic!("{}: {name}: {e}", lesson.display()))
     };
-    let printed = ccsl::run(&read("table.ccsl"), &read("trace.vcd")).to_string();
-    let expected = String::from_utf8_lossy(&read("printed")).into_owned();
+    let printed = ccsl::run_with(&read("table.ccsl"), &read("trace.vcd"), unknown).to_string();
+    let expected = String::from_utf8_lossy(&read(file)).into_owned();
     (printed != expected).then(|| {
         format!(
-            "{}: printed\n{printed}where the file has\n{expected}",
+            "{}: printed\n{printed}where the file {file} has\n{expected}",
             lesson.display()
         )
     })
 }
 
 fn all_print_what_they_should(lessons: &[PathBuf]) {
-    let faults: Vec<String> = lessons.iter().filter_map(|lesson| fault(lesson)).collect();
+    let mut faults = Vec::new();
+    for lesson in lessons {
+        faults.extend(fault(lesson, "printed", UnknownNames::Ignored));
+        if lesson.join("strict").exists() {
+            faults.extend(fault(lesson, "strict", UnknownNames::Refused));
+        }
+    }
     assert!(faults.is_empty(), "{}", faults.join("\n"));
 }
 

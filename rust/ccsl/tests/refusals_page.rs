@@ -14,10 +14,12 @@ use ccsl::{Clocks, Configuration, Kind, Record, SamePlace, StepAnswer, KINDS, WO
 use std::fs;
 use std::path::{Path, PathBuf};
 
-/// The numbers of a run, and those of the calls on records.
+/// The numbers of a run with unknown names ignored, the one more with unknown names refused, and those
+/// of the calls on records.
 const OF_A_RUN: [u64; 24] = [
     10, 11, 12, 13, 14, 15, 16, 17, 18, 19, 20, 30, 31, 32, 33, 34, 35, 36, 37, 40, 41, 42, 43, 44,
 ];
+const OF_A_STRICT_RUN: u64 = 38;
 const OF_A_CALL: [u64; 5] = [21, 51, 59, 60, 61];
 
 /// The words for the kinds, in the order of [`KINDS`].
@@ -207,7 +209,7 @@ fn order(block: &Block) -> String {
 #[test]
 fn every_number_has_its_heading() {
     let page = page();
-    for number in OF_A_RUN.iter().chain(&OF_A_CALL) {
+    for number in OF_A_RUN.iter().chain(&[OF_A_STRICT_RUN]).chain(&OF_A_CALL) {
         let heading = format!("## {number}");
         let is_heading = |line: &str| {
             line.strip_prefix(&heading)
@@ -245,18 +247,24 @@ fn every_number_of_a_call_has_a_block() {
     }
 }
 
+/// What a file in the folder of a number has.
+fn example(number: u64, file: &str) -> String {
+    let path = repository().join(format!("examples/refusals/{number}/{file}"));
+    fs::read_to_string(&path).unwrap_or_else(|e| panic!("{}: {e}", path.display()))
+}
+
 #[test]
 fn every_number_of_a_run_has_a_folder() {
-    for number in OF_A_RUN {
-        let path = repository().join(format!("examples/refusals/{number}/printed"));
-        let printed =
-            fs::read_to_string(&path).unwrap_or_else(|e| panic!("{}: {e}", path.display()));
+    let printed = OF_A_RUN.map(|number| (number, example(number, "printed")));
+    let strict = (OF_A_STRICT_RUN, example(OF_A_STRICT_RUN, "strict"));
+    for (number, text) in printed.into_iter().chain([strict]) {
         assert!(
-            printed.starts_with(&format!("refused {number} ")),
-            "{}: {printed}",
-            path.display()
+            text.starts_with(&format!("refused {number} ")),
+            "{number}: {text}"
         );
     }
+    let ignored = example(OF_A_STRICT_RUN, "printed");
+    assert!(!ignored.starts_with("refused "), "{ignored}");
 }
 
 #[test]

@@ -1,6 +1,6 @@
 //! One question to a monitor, and the answer to it.
 
-use ccsl::Clocks;
+use ccsl::{Clocks, UnknownNames};
 use second_opinion::{
     Configuration, Record, Refusal, Report, SamePlace, StepAnswer, Table, Verdict,
 };
@@ -10,8 +10,13 @@ use std::ops::Range;
 /// A question, with all that is handed in.
 #[derive(Clone, PartialEq, Eq)]
 pub enum Case {
-    /// The whole run of a recording by a table.
-    Run { table: Vec<u8>, recording: Vec<u8> },
+    /// The whole run of a recording by a table, with a choice for variables whose names the table
+    /// lacks.
+    Run {
+        table: Vec<u8>,
+        recording: Vec<u8>,
+        unknown: UnknownNames,
+    },
     /// Reading a table.
     Read { text: Vec<u8> },
     /// The start words of records.
@@ -140,8 +145,12 @@ impl Answer {
 impl fmt::Display for Case {
     fn fmt(&self, f: &mut fmt::Formatter<'_>) -> fmt::Result {
         match self {
-            Case::Run { table, recording } => {
-                writeln!(f, "run")?;
+            Case::Run {
+                table,
+                recording,
+                unknown,
+            } => {
+                writeln!(f, "run\n  unknown names: {unknown:?}")?;
                 write_text(f, "table", table)?;
                 write_text(f, "recording", recording)
             }

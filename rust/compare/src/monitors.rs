@@ -1,7 +1,7 @@
 //! The two monitors, asked the same questions and answering in the same words.
 
 use crate::case::{table_clocks, Answer, Case, Read};
-use ccsl::Clocks;
+use ccsl::{Clocks, UnknownNames};
 use second_opinion::{
     Configuration, Kind, Record, Refusal, Report, SamePlace, StepAnswer, Verdict,
 };
@@ -47,7 +47,11 @@ fn keep_messages() {
 /// The proved library.
 pub fn library(case: &Case) -> Answer {
     match case {
-        Case::Run { table, recording } => Answer::Run(report(ccsl::run(table, recording))),
+        Case::Run {
+            table,
+            recording,
+            unknown,
+        } => Answer::Run(report(ccsl::run_with(table, recording, *unknown))),
         Case::Read { text } => Answer::Read(ccsl::read_table(text).map(read).map_err(refusal)),
         Case::Start { records, clocks } => {
             Answer::Start(ccsl::start_words(&to_library(records), *clocks).map_err(refusal))
@@ -89,7 +93,11 @@ pub fn library(case: &Case) -> Answer {
 /// The monitor that was written separately.
 pub fn second(case: &Case) -> Answer {
     match case {
-        Case::Run { table, recording } => Answer::Run(second_opinion::run(table, recording)),
+        Case::Run {
+            table,
+            recording,
+            unknown,
+        } => Answer::Run(second_opinion::run(table, recording, choice(*unknown))),
         Case::Read { text } => {
             Answer::Read(second_opinion::read_table(text).map(|table| second_read(text, table)))
         }
@@ -130,6 +138,14 @@ pub fn second(case: &Case) -> Answer {
             let (named, count) = counts(*clocks);
             Answer::Order(second_opinion::definition_order(records, named, count))
         }
+    }
+}
+
+/// The choice in the second monitor's words.
+fn choice(unknown: UnknownNames) -> second_opinion::UnknownNames {
+    match unknown {
+        UnknownNames::Refused => second_opinion::UnknownNames::Refused,
+        UnknownNames::Ignored => second_opinion::UnknownNames::Ignored,
     }
 }
 

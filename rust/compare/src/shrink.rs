@@ -3,7 +3,7 @@
 
 use crate::case::Case;
 use crate::monitors::{defines, operands};
-use ccsl::Clocks;
+use ccsl::{Clocks, UnknownNames};
 use second_opinion::{Configuration, Kind, Record, WORDS};
 use std::cell::Cell;
 use std::cmp::Ordering;
@@ -36,7 +36,9 @@ pub fn smallest(case: &Case, differs: &dyn Fn(&Case) -> bool) -> Case {
 /// About the bytes of a case.
 fn size(case: &Case) -> usize {
     1000 + match case {
-        Case::Run { table, recording } => table.len() + recording.len(),
+        Case::Run {
+            table, recording, ..
+        } => table.len() + recording.len(),
         Case::Read { text } => text.len(),
         _ => 48 * records(case).len(),
     }
@@ -45,10 +47,15 @@ fn size(case: &Case) -> usize {
 /// The case with lines, words, bytes, pairs of parentheses or records taken out.
 fn shorter(case: &Case, differs: Differs) -> Case {
     match case {
-        Case::Run { table, recording } => {
+        Case::Run {
+            table,
+            recording,
+            unknown,
+        } => {
             let with = |table: &[u8], recording: &[u8]| Case::Run {
                 table: table.to_vec(),
                 recording: recording.to_vec(),
+                unknown: *unknown,
             };
             let table = shorter_table(table, &|text| differs(&with(text, recording)));
             let recording = shorter_text(recording, &|text| differs(&with(&table, text)));
@@ -268,7 +275,8 @@ fn with_rows(case: &Case, rows: &[Row]) -> Case {
     case
 }
 
-/// The case with definitions taken out and numbers made 0 or less, one after another.
+/// The case with definitions taken out, numbers made 0 or less, and unknown names refused, which is
+/// the default, one after another.
 fn simpler(mut case: Case, differs: Differs) -> Case {
     while let Some(next) = simplifications(&case)
         .into_iter()
@@ -279,7 +287,7 @@ fn simpler(mut case: Case, differs: Differs) -> Case {
     case
 }
 
-/// All cases that have one definition or one number less.
+/// All cases that have one definition or one number less, or the default choice.
 fn simplifications(case: &Case) -> Vec<Case> {
     let mut found = without_definition(case);
     for place in 0..records(case).len() {
@@ -302,9 +310,18 @@ fn simplifications(case: &Case) -> Vec<Case> {
             found.extend(zeroed(first).map(|words| with_place(case, words, *second)));
             found.extend(zeroed(second).map(|words| with_place(case, *first, words)));
         }
-        Case::Start { .. } | Case::Order { .. } | Case::Run { .. } | Case::Read { .. } => {}
+        Case::Run { .. } => found.push(with_refused(case)),
+        Case::Start { .. } | Case::Order { .. } | Case::Read { .. } => {}
     }
     found
+}
+
+fn with_refused(case: &Case) -> Case {
+    let mut case = case.clone();
+    if let Case::Run { unknown, .. } = &mut case {
+        *unknown = UnknownNames::Refused;
+    }
+    case
 }
 
 /// The cases without one of the definitions, with one of its operands for the clock that it defines:
@@ -459,6 +476,32 @@ mod tests {
             shorter_text(b"a = b\nc clockDef a lub b\nb # c\n", &wanted),
             b"lub"
         );
+    }
+
+    #[test]
+    fn a_run_shrinks_to_the_default_choice_or_keeps_its_own() {
+        let run = |table: &[u8], recording: &[u8], unknown| Case::Run {
+            table: table.to_vec(),
+            recording: recording.to_vec(),
+            unknown,
+        };
+        let shrunk = |choice, wanted: &dyn Fn(UnknownNames) -> bool| {
+            let differs = |case: &Case| match case {
+                Case::Run {
+                    table,
+                    recording,
+                    unknown,
+                } => table.contains(&b'#') && recording.contains(&b'7') && wanted(*unknown),
+                _ => false,
+            };
+            smallest(&run(b"a # b", b"$enddefinitions $end #7", choice), &differs)
+        };
+        for choice in [UnknownNames::Refused, UnknownNames::Ignored] {
+            let any = shrunk(choice, &|_| true);
+            assert!(any == run(b"#", b"7", UnknownNames::Refused), "{any}");
+            let own = shrunk(choice, &|unknown| unknown == choice);
+            assert!(own == run(b"#", b"7", choice), "{own}");
+        }
     }
 
     #[test]

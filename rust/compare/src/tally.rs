@@ -2,14 +2,15 @@
 
 use crate::case::{Answer, Case};
 use crate::generate::{Group, GROUPS};
+use ccsl::UnknownNames;
 use second_opinion::{SamePlace, StepAnswer, Verdict};
 use std::collections::BTreeMap;
 use std::fmt;
 
 /// Every refusal number of documents 01 and 02, as far as its requests were carried out.
-pub const REFUSALS: [u64; 29] = [
-    10, 11, 12, 13, 14, 15, 16, 17, 18, 19, 20, 21, 30, 31, 32, 33, 34, 35, 36, 37, 40, 41, 42, 43,
-    44, 51, 59, 60, 61,
+pub const REFUSALS: [u64; 30] = [
+    10, 11, 12, 13, 14, 15, 16, 17, 18, 19, 20, 21, 30, 31, 32, 33, 34, 35, 36, 37, 38, 40, 41, 42,
+    43, 44, 51, 59, 60, 61,
 ];
 
 /// Counts of what came up.
@@ -27,6 +28,7 @@ pub struct Tally {
     /// Working orders that are not the order of the records.
     moved: u64,
     nested: Nested,
+    choices: Choices,
 }
 
 /// Counts of what came up with implicit clocks.
@@ -64,6 +66,29 @@ impl Nested {
     }
 }
 
+/// Counts of runs by the choice for unknown names: all, and those that came to a step.
+#[derive(Clone, Copy, Debug, Default)]
+pub struct Choices {
+    pub refused: u64,
+    pub refused_with_steps: u64,
+    pub ignored: u64,
+    pub ignored_with_steps: u64,
+}
+
+impl Choices {
+    fn count(&mut self, case: &Case, answer: &Answer) {
+        let (Case::Run { unknown, .. }, Answer::Run(report)) = (case, answer) else {
+            return;
+        };
+        let (runs, with_steps) = match unknown {
+            UnknownNames::Refused => (&mut self.refused, &mut self.refused_with_steps),
+            UnknownNames::Ignored => (&mut self.ignored, &mut self.ignored_with_steps),
+        };
+        *runs += 1;
+        *with_steps += u64::from(report.steps > 0);
+    }
+}
+
 impl Tally {
     /// Counts a pair.
     pub fn count_pair(&mut self, group: Group) {
@@ -80,6 +105,7 @@ impl Tally {
             *self.refusals.entry(refusal.number).or_default() += 1;
         }
         self.nested.count(case, answer);
+        self.choices.count(case, answer);
         match answer {
             Answer::Run(report) => {
                 self.steps += report.steps;
@@ -120,6 +146,11 @@ impl Tally {
     /// What came up with implicit clocks.
     pub fn nested(&self) -> Nested {
         self.nested
+    }
+
+    /// Runs by the choice for unknown names.
+    pub fn choices(&self) -> Choices {
+        self.choices
     }
 
     /// The refusal numbers that never came up.
@@ -178,6 +209,15 @@ impl fmt::Display for Tally {
             ("runs", self.nested.runs),
             ("steps of runs", self.nested.steps_of_runs),
             ("steps accepted", self.nested.steps),
+        ] {
+            writeln!(f, "  {words:<20} {count:>9}")?;
+        }
+        writeln!(f, "runs by unknown names:")?;
+        for (words, count) in [
+            ("refused", self.choices.refused),
+            ("refused, with steps", self.choices.refused_with_steps),
+            ("ignored", self.choices.ignored),
+            ("ignored, with steps", self.choices.ignored_with_steps),
         ] {
             writeln!(f, "  {words:<20} {count:>9}")?;
         }

@@ -1,8 +1,11 @@
 //! The proved library and the separately written monitor give the same answers, on a few thousand
 //! questions of fixed seeds.
 
-use compare::generate::{Group, GROUPS};
+use ccsl::UnknownNames;
+use compare::case::{Answer, Case};
+use compare::generate::{self, Group, GROUPS};
 use compare::monitors::{library, second};
+use compare::random::Random;
 use compare::tally::Tally;
 use compare::{compare, compare_group};
 
@@ -51,6 +54,11 @@ fn mixed_questions_agree_and_meet_every_refusal_number() {
         nested.steps,
     ];
     assert!(counts.iter().all(|count| *count >= 50), "{nested:?}");
+    let choices = tally.choices();
+    assert!(
+        choices.refused_with_steps >= 150 && choices.ignored_with_steps >= 500,
+        "{choices:?}"
+    );
 }
 
 #[test]
@@ -85,8 +93,52 @@ fn long_runs_agree() {
 
 #[test]
 fn recordings_at_the_limits_agree() {
-    agree(8, 2000, Group::RecordingLimits);
+    let tally = agree(8, 2000, Group::RecordingLimits);
+    assert!(
+        tally.refusals(37) >= 10 && tally.refusals(38) >= 150,
+        "{tally}"
+    );
     agree(9, 12, Group::RecordingLength);
+}
+
+/// The answers of the library to a run, with unknown names refused and with unknown names ignored.
+fn both_choices(case: &Case) -> Option<[Answer; 2]> {
+    let mut case = case.clone();
+    let mut answer = |choice| match &mut case {
+        Case::Run { unknown, .. } => {
+            *unknown = choice;
+            Some(library(&case))
+        }
+        _ => None,
+    };
+    Some([
+        answer(UnknownNames::Refused)?,
+        answer(UnknownNames::Ignored)?,
+    ])
+}
+
+#[test]
+fn the_choice_matters_only_where_the_library_answers_38() {
+    let (mut same, mut other) = (0, 0);
+    for pair in 0..12_000 {
+        let (_, case) = generate::any(&mut Random::of_pair(18, pair));
+        let Some([refused, ignored]) = both_choices(&case) else {
+            continue;
+        };
+        let number = |answer: &Answer| answer.refusal().map(|refusal| refusal.number);
+        assert_ne!(number(&refused), Some(37), "{case}");
+        assert_ne!(number(&ignored), Some(38), "{case}");
+        if number(&refused) == Some(38) {
+            other += 1;
+        } else {
+            assert_eq!(refused, ignored, "{case}");
+            same += 1;
+        }
+    }
+    assert!(
+        same >= 3000 && other >= 1000,
+        "{same} the same, {other} others"
+    );
 }
 
 #[test]

@@ -1,13 +1,13 @@
 //! A deliberately wrong monitor is found, and what is reported is small.
 
-use ccsl::Clocks;
+use ccsl::{Clocks, UnknownNames};
 use compare::case::{Answer, Case, Read};
 use compare::compare;
 use compare::generate::tables::FORM_WORDS;
 use compare::generate::ticks::all;
 use compare::monitors::{defines, library, operands, second};
 use compare::Mismatch;
-use second_opinion::{judge, read_table, Kind, Record, Refusal, StepAnswer};
+use second_opinion::{judge, read_table, Kind, Record, Refusal, Report, StepAnswer, Verdict};
 
 /// A monitor that reads `glb` as `lub`.
 fn glb_is_lub(case: &Case) -> Answer {
@@ -411,18 +411,192 @@ fn circle_before_59(case: &Case) -> Answer {
     answer
 }
 
+/// The monitor's answer to a run with this choice, and to all else as it is.
+fn with_choice(case: &Case, choice: UnknownNames) -> Answer {
+    let mut case = case.clone();
+    if let Case::Run { unknown, .. } = &mut case {
+        *unknown = choice;
+    }
+    second(&case)
+}
+
+/// A monitor that ignores unknown names under both choices.
+fn never_38(case: &Case) -> Answer {
+    with_choice(case, UnknownNames::Ignored)
+}
+
+/// A monitor that refuses unknown names under both choices.
+fn always_38(case: &Case) -> Answer {
+    with_choice(case, UnknownNames::Refused)
+}
+
+/// A monitor for which every name is known by a table without names.
+fn all_known_by_no_names(case: &Case) -> Answer {
+    match case {
+        Case::Run { table, .. } if names_of(table).is_empty() => never_38(case),
+        _ => second(case),
+    }
+}
+
+/// The names of a table's clocks.
+fn names_of(table: &[u8]) -> Vec<String> {
+    read_table(table).map_or(Vec::new(), |table| table.names)
+}
+
+/// The words of a recording from an offset on, each with its own.
+fn words_from(recording: &[u8], from: usize) -> impl Iterator<Item = (usize, &[u8])> {
+    let mut at = from;
+    recording[from..]
+        .split(u8::is_ascii_whitespace)
+        .map(move |word| {
+            let start = at;
+            at += word.len() + 1;
+            (start, word)
+        })
+        .filter(|(_, word)| !word.is_empty())
+}
+
+/// A monitor for which letter case does not count in the names of variables.
+fn whatever_the_case(case: &Case) -> Answer {
+    let mut case = case.clone();
+    if let Case::Run {
+        table, recording, ..
+    } = &mut case
+    {
+        let names = names_of(table);
+        let words = words_from(recording, 0).map(|(at, word)| (at, word.to_vec()));
+        let words: Vec<(usize, Vec<u8>)> = words.collect();
+        for variable in words.windows(5).filter(|words| words[0].1 == b"$var") {
+            let (at, name) = &variable[4];
+            let is_it = |known: &&String| known.as_bytes().eq_ignore_ascii_case(name);
+            if let Some(known) = names.iter().find(is_it) {
+                recording[*at..at + known.len()].copy_from_slice(known.as_bytes());
+            }
+        }
+    }
+    second(&case)
+}
+
+/// A monitor that gives another answer where unknown names are refused and the run is refused with
+/// this number.
+fn other_than(
+    case: &Case,
+    number: u64,
+    other: fn(&[u8], &[u8], Refusal) -> Option<Refusal>,
+) -> Answer {
+    let mut answer = second(case);
+    if let (
+        Case::Run {
+            table,
+            recording,
+            unknown: UnknownNames::Refused,
+        },
+        Answer::Run(Report {
+            verdict: Verdict::Refused(refusal),
+            ..
+        }),
+    ) = (case, &mut answer)
+    {
+        if refusal.number == number {
+            *refusal = other(table, recording, *refusal).unwrap_or(*refusal);
+        }
+    }
+    answer
+}
+
+/// 38 for another refusal of a variable, if its name is there and the table lacks it.
+fn unknown_first(table: &[u8], recording: &[u8], refusal: Refusal) -> Option<Refusal> {
+    let (_, name) = words_from(recording, refusal.place as usize).nth(4)?;
+    let is_known = names_of(table).iter().any(|known| known.as_bytes() == name);
+    (!is_known).then_some(Refusal {
+        number: 38,
+        ..refusal
+    })
+}
+
+/// A monitor that asks 38 before 34.
+fn unknown_before_34(case: &Case) -> Answer {
+    other_than(case, 34, unknown_first)
+}
+
+/// A monitor that asks 38 before 33.
+fn unknown_before_33(case: &Case) -> Answer {
+    other_than(case, 33, unknown_first)
+}
+
+/// A monitor that asks 38 before 36, of a variable that is cut off behind its name.
+fn unknown_before_36(case: &Case) -> Answer {
+    other_than(case, 36, |table, recording, refusal| {
+        let words: Vec<(usize, &[u8])> = words_from(recording, 0).collect();
+        let (place, command) = words[words.len().checked_sub(5)?];
+        let place = place as u64;
+        (command == b"$var")
+            .then(|| unknown_first(table, recording, Refusal { place, ..refusal }))?
+    })
+}
+
+/// A monitor that has 38 at the name.
+fn unknown_at_its_name(case: &Case) -> Answer {
+    other_than(case, 38, |_, recording, refusal| {
+        let (place, _) = words_from(recording, refusal.place as usize).nth(4)?;
+        let place = place as u64;
+        Some(Refusal { place, ..refusal })
+    })
+}
+
+/// A monitor that has 38 at the end of the header, as 35.
+fn unknown_at_the_end(case: &Case) -> Answer {
+    other_than(case, 38, |_, recording, refusal| {
+        let mut behind = words_from(recording, refusal.place as usize).skip(6);
+        let (place, _) = behind.find(|(_, word)| *word == b"$enddefinitions")?;
+        let place = place as u64;
+        Some(Refusal { place, ..refusal })
+    })
+}
+
+/// A monitor that asks 35 before 38.
+fn unknown_behind_35(case: &Case) -> Answer {
+    let (answer, ignored) = (second(case), never_38(case));
+    let is = |answer: &Answer, number| answer.refusal().is_some_and(|r| r.number == number);
+    if is(&answer, 38) && is(&ignored, 35) {
+        return ignored;
+    }
+    answer
+}
+
+/// A monitor that leaves zeros with 38.
+fn zeros_with_38(case: &Case) -> Answer {
+    let mut answer = second(case);
+    let is_38 = answer.refusal().is_some_and(|refusal| refusal.number == 38);
+    if let (true, Answer::Run(report)) = (is_38, &mut answer) {
+        report.configuration = [0; second_opinion::WORDS];
+    }
+    answer
+}
+
 /// What is found when a wrong monitor is compared with the library.
 fn found(wrong: fn(&Case) -> Answer) -> Mismatch {
     *compare(21, 0..20_000, &library, &wrong, &mut |_| {})
         .expect_err("the wrong monitor was not found")
 }
 
+/// The table, the recording and the choice of a run.
+#[track_caller]
+fn run_of(mismatch: &Mismatch) -> (&[u8], &[u8], UnknownNames) {
+    match &mismatch.case {
+        Case::Run {
+            table,
+            recording,
+            unknown,
+        } => (table, recording, *unknown),
+        _ => panic!("{mismatch}"),
+    }
+}
+
 #[test]
 fn a_wrong_form_is_found_with_one_constraint() {
     let mismatch = found(glb_is_lub);
-    let Case::Run { table, recording } = &mismatch.case else {
-        panic!("{mismatch}")
-    };
+    let (table, recording, _) = run_of(&mismatch);
     let table = read_table(table).unwrap_or_else(|_| panic!("{mismatch}"));
     assert_eq!(table.records.len(), 1, "{mismatch}");
     assert_eq!(table.records[0].kind, Kind::Glb, "{mismatch}");
@@ -473,14 +647,58 @@ fn a_monitor_that_breaks_off_is_found_with_its_message() {
         Answer::Panicked("time 7".to_string()),
         "{mismatch}"
     );
-    let Case::Run { table, recording } = &mismatch.case else {
-        panic!("{mismatch}")
-    };
-    assert_eq!(
-        (table.as_slice(), recording.as_slice()),
-        (&b""[..], &b"#7 "[..]),
-        "{mismatch}"
-    );
+    let (table, recording, _) = run_of(&mismatch);
+    assert_eq!((table, recording), (&b""[..], &b"#7 "[..]), "{mismatch}");
+}
+
+/// What is found is a run with this choice, by a table of so many lines, of a recording of so many
+/// bytes.
+#[track_caller]
+fn assert_run_of(wrong: fn(&Case) -> Answer, choice: UnknownNames, lines: usize, bytes: usize) {
+    let mismatch = found(wrong);
+    let (table, recording, unknown) = run_of(&mismatch);
+    let records = read_table(table).map_or(Vec::new(), |table| table.records);
+    let last = records.last().map_or(0, |record| record.line as usize);
+    assert_eq!(unknown, choice, "{mismatch}");
+    assert_eq!((last, recording.len()), (lines, bytes), "{mismatch}");
+}
+
+/// The bytes of `$var event 1 ! a $end`.
+const VARIABLE: usize = 21;
+
+#[test]
+fn an_unknown_name_that_is_ignored_is_found_with_one_variable() {
+    assert_run_of(never_38, UnknownNames::Refused, 0, VARIABLE);
+    assert_run_of(all_known_by_no_names, UnknownNames::Refused, 0, VARIABLE);
+    assert_run_of(whatever_the_case, UnknownNames::Refused, 1, VARIABLE);
+}
+
+#[test]
+fn an_unknown_name_that_is_refused_unasked_is_found_with_one_variable() {
+    assert_run_of(always_38, UnknownNames::Ignored, 0, VARIABLE);
+}
+
+#[test]
+fn a_wrong_order_of_38_is_found_with_one_or_two_variables() {
+    let two = VARIABLE + 1 + VARIABLE;
+    assert_run_of(unknown_before_34, UnknownNames::Refused, 1, two);
+    // Six words, of which only the first has to be a certain one, and five of them.
+    assert_run_of(unknown_before_33, UnknownNames::Refused, 0, 14);
+    assert_run_of(unknown_before_36, UnknownNames::Refused, 0, 12);
+    let with_end = VARIABLE + 1 + "$enddefinitions $end".len();
+    assert_run_of(unknown_behind_35, UnknownNames::Refused, 1, with_end);
+}
+
+#[test]
+fn a_wrong_place_of_38_is_found_with_one_variable() {
+    assert_run_of(unknown_at_its_name, UnknownNames::Refused, 0, VARIABLE);
+    let with_end = VARIABLE + 1 + "$enddefinitions".len();
+    assert_run_of(unknown_at_the_end, UnknownNames::Refused, 0, with_end);
+}
+
+#[test]
+fn words_that_are_no_start_words_with_38_are_found_with_one_variable() {
+    assert_run_of(zeros_with_38, UnknownNames::Refused, 1, VARIABLE);
 }
 
 /// What is found is a table of one line, with at most so many expressions in parentheses.
@@ -597,6 +815,7 @@ fn a_mismatch_is_printed_with_its_seed_and_pair() {
     let mismatch = found(glb_is_lub);
     let printed = mismatch.to_string();
     assert!(printed.contains("seed 21, pair "), "{printed}");
+    assert!(printed.contains("unknown names: Refused"), "{printed}");
     assert!(
         printed.contains(" clockDef ") && printed.contains(" glb "),
         "{printed}"

@@ -13,6 +13,9 @@
 //! Since M-102 there is one more question: the definition records "in working
 //! order".
 //!
+//! Since M-103 a whole run is told what becomes of "a variable whose name the
+//! table lacks": it is refused "by default", or ignored.
+//!
 //! The crate is written from the scope paper (document 01) and the change
 //! requests (document 02) alone, and shares nothing with the monitor that it is
 //! held against. Quoted sentences in these comments are the scope paper's, or a
@@ -31,6 +34,7 @@ mod table;
 
 pub use order::definition_order;
 pub use place::{same_place, told_apart, SamePlace};
+pub use recording::UnknownNames;
 pub use rule::{judge, start_word, Kind, Record};
 pub use run::{run, Report, Verdict};
 pub use step::{start_words, step, StepAnswer};

@@ -1,4 +1,7 @@
 //! The recording's words and its header.
+//!
+//! Since M-103 the header refuses variables with names that the table lacks,
+//! unless it is told to ignore them.
 
 use std::collections::{HashMap, HashSet};
 
@@ -75,12 +78,23 @@ impl<'r> Iterator for Words<'r> {
     }
 }
 
+/// What becomes of "a variable whose name the table lacks" (M-103).
+#[derive(Clone, Copy, Debug, PartialEq, Eq, Hash)]
+pub enum UnknownNames {
+    /// "The whole run now refuses, by default," such a variable: 38 (M-103).
+    Refused,
+    /// With "the choice to ignore" (M-103) such a variable "is ignored in the
+    /// body".
+    Ignored,
+}
+
 /// What an id of the header stands for.
 #[derive(Clone, Copy)]
 pub(crate) enum Variable {
     /// A clock of the table.
     Clock(usize),
-    /// "A variable with a name that the table lacks is ignored in the body."
+    /// "A variable with a name that the table lacks is ignored in the body",
+    /// where `UnknownNames::Ignored` lets it pass.
     Ignored,
 }
 
@@ -91,8 +105,9 @@ pub(crate) type Variables<'r> = HashMap<&'r str, Variable>;
 pub(crate) fn read_header<'r>(
     words: &mut Words<'r>,
     names: &[String],
+    unknown: UnknownNames,
 ) -> Result<Variables<'r>, Refusal> {
-    let mut header = Header::of(names);
+    let mut header = Header::of(names, unknown);
     while let Some(command) = words.next() {
         match command.text {
             "$date" | "$version" | "$comment" | "$timescale" | "$scope" | "$upscope" => {
@@ -111,17 +126,19 @@ pub(crate) fn read_header<'r>(
 /// What the header has declared so far.
 struct Header<'t, 'r> {
     clocks: HashMap<&'t str, usize>,
+    unknown: UnknownNames,
     declared: HashSet<usize>,
     variables: Variables<'r>,
 }
 
 impl<'t, 'r> Header<'t, 'r> {
-    fn of(names: &'t [String]) -> Self {
+    fn of(names: &'t [String], unknown: UnknownNames) -> Self {
         let numbered = names.iter().enumerate();
         Header {
             clocks: numbered
                 .map(|(clock, name)| (name.as_str(), clock))
                 .collect(),
+            unknown,
             declared: HashSet::new(),
             variables: HashMap::new(),
         }
@@ -129,7 +146,9 @@ impl<'t, 'r> Header<'t, 'r> {
 
     /// "A variable is the six words `$var event 1 id name $end`, id 1 to 4
     /// bytes, any word serving as name." With fewer words left it is 36: "a
-    /// command whose words run out has this refusal and no other".
+    /// command whose words run out has this refusal and no other". Then 33, 34,
+    /// 38 and 37 are asked: 38 "between 34 and 37, with the command's offset"
+    /// (M-103).
     fn declare(&mut self, command: Word<'r>, words: &mut Words<'r>) -> Result<(), Refusal> {
         let rest: Vec<&str> = words.by_ref().take(5).map(|word| word.text).collect();
         let [sort, size, id, name, end] = rest[..] else {
@@ -142,6 +161,9 @@ impl<'t, 'r> Header<'t, 'r> {
         let clock_again = clock.is_some_and(|clock| self.declared.contains(&clock));
         if self.variables.contains_key(id) || clock_again {
             return Err(command.refuse(34));
+        }
+        if clock.is_none() && self.unknown == UnknownNames::Refused {
+            return Err(command.refuse(38));
         }
         if self.variables.len() == VARIABLES {
             return Err(command.refuse(37));

@@ -4,7 +4,7 @@ use std::fmt;
 
 use crate::recording::{self, Variable, Variables, Word, Words};
 use crate::step::{advance, start, Stop};
-use crate::{read_table, Configuration, Refusal, Table, WORDS};
+use crate::{read_table, Configuration, Refusal, Table, UnknownNames, WORDS};
 
 /// The values that a change may open with.
 const VALUES: [char; 6] = ['0', '1', 'x', 'X', 'z', 'Z'];
@@ -66,10 +66,11 @@ impl fmt::Display for Report {
     }
 }
 
-/// Reads a table, then a recording, and judges its steps.
-pub fn run(table: &[u8], recording: &[u8]) -> Report {
+/// Reads a table, then a recording, and judges its steps. `unknown` is the
+/// choice on variables with names that the table lacks (M-103).
+pub fn run(table: &[u8], recording: &[u8], unknown: UnknownNames) -> Report {
     match read_table(table) {
-        Ok(table) => run_table(&table, recording),
+        Ok(table) => run_table(&table, recording, unknown),
         // "A refused table leaves all records empty, 64 zero words and 0 steps."
         Err(refusal) => Report {
             verdict: refusal.into(),
@@ -82,9 +83,9 @@ pub fn run(table: &[u8], recording: &[u8]) -> Report {
 
 /// "Any other refusal, and a violation, gives the steps accepted so far and the
 /// configuration after them."
-fn run_table(table: &Table, recording: &[u8]) -> Report {
+fn run_table(table: &Table, recording: &[u8], unknown: UnknownNames) -> Report {
     let mut monitor = Monitor::start(table);
-    let verdict = match monitor.read(recording) {
+    let verdict = match monitor.read(recording, unknown) {
         Ok(()) => Verdict::Accepted,
         Err(verdict) => verdict,
     };
@@ -129,10 +130,10 @@ impl<'t> Monitor<'t> {
     }
 
     /// "Reading stops at the first violation or refusal."
-    fn read(&mut self, recording: &[u8]) -> Result<(), Verdict> {
+    fn read(&mut self, recording: &[u8], unknown: UnknownNames) -> Result<(), Verdict> {
         let text = recording::text(recording)?;
         let mut words = Words::of(text);
-        let variables = recording::read_header(&mut words, &self.table.names)?;
+        let variables = recording::read_header(&mut words, &self.table.names, unknown)?;
         let mut open: Option<OpenStep> = None;
         for word in words {
             if let Some(digits) = word.text.strip_prefix('#') {
@@ -219,7 +220,7 @@ mod tests {
         let mut monitor = Monitor::start(&table);
         monitor.configuration[0] = 999_999;
         let recording = format!("{header} #1 1! #2 1! 1\" #3 1! #4");
-        let answer = monitor.read(recording.as_bytes());
+        let answer = monitor.read(recording.as_bytes(), UnknownNames::Ignored);
         let offset = recording.find("#3").expect("the mark");
         assert_eq!(answer, Err(Verdict::Refused(Refusal::new(51, offset))));
         assert_eq!(monitor.steps, Steps(2));
@@ -235,7 +236,7 @@ mod tests {
         let mut monitor = Monitor::start(&table);
         monitor.configuration[0] = -999_999;
         let recording = format!("{header} $enddefinitions $end #1 1\" 1% #2 1! 1\" #3 1\" 1%");
-        let answer = monitor.read(recording.as_bytes());
+        let answer = monitor.read(recording.as_bytes(), UnknownNames::Ignored);
         let offset = recording.find("#3").expect("the mark");
         assert_eq!(answer, Err(Verdict::Refused(Refusal::new(51, offset))));
         assert_eq!(monitor.steps, Steps(2));

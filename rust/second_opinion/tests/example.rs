@@ -12,7 +12,7 @@ const RECORDING: &str = "$var event 1 ! req $end $var event 1 \" ack $end \
 
 #[test]
 fn the_papers_example() {
-    let report = run(TABLE.as_bytes(), RECORDING.as_bytes());
+    let report = run_ignoring(TABLE.as_bytes(), RECORDING.as_bytes());
     let expected = Report {
         verdict: Verdict::Violated { line: 1, time: 9 },
         steps: 4,
@@ -45,25 +45,25 @@ fn the_papers_example_step_by_step() {
 
 #[test]
 fn reading_37_three_lines_for_each_verdict() {
-    let accepted = run(
+    let accepted = run_ignoring(
         b"c clockDef a lub b",
         format!("{HEADER}#007 1\" #08 1\" #9 1\"").as_bytes(),
     );
     assert_eq!(accepted.to_string(), "accepted\nsteps 3\nconfig -3\n");
-    let violated = run(b"\na # b", format!("{} #0012 1! 1\"", HEADER).as_bytes());
+    let violated = run_ignoring(b"\na # b", format!("{} #0012 1! 1\"", HEADER).as_bytes());
     assert_eq!(violated.to_string(), "violated 2 12\nsteps 0\nconfig 0\n");
-    let refused = run(b"c clockDef await 007 a", b"");
+    let refused = run_ignoring(b"c clockDef await 007 a", b"");
     assert_eq!(refused.to_string(), "refused 36 0\nsteps 0\nconfig 7\n");
 }
 
 #[test]
 fn a_refused_table_prints_config_alone() {
-    let report = run(b"a = b\na ~ b", HEADER.as_bytes());
+    let report = run_ignoring(b"a = b\na ~ b", HEADER.as_bytes());
     assert_eq!(report.to_string(), "refused 12 2\nsteps 0\nconfig\n");
 }
 
 #[test]
 fn an_empty_table_prints_config_alone_and_accepts_every_step() {
-    let report = run(b"", format!("{HEADER}#1 1! 1\" #2 1% #3").as_bytes());
+    let report = run_ignoring(b"", format!("{HEADER}#1 1! 1\" #2 1% #3").as_bytes());
     assert_eq!(report.to_string(), "accepted\nsteps 3\nconfig\n");
 }

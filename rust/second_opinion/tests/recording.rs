@@ -1,5 +1,6 @@
 //! The recording: readings 21 to 36, and M-100's readings 1 to 6, with which 34
-//! fell.
+//! fell. Names that the table lacks are ignored; `unknown_names` has the other
+//! choice.
 
 mod common;
 
@@ -260,7 +261,7 @@ fn reading_29_after_30_to_37_the_configuration_is_the_start_words() {
         (END.to_owned(), 35),
         (String::new(), 36),
     ] {
-        let report = run(table, recording.as_bytes());
+        let report = run_ignoring(table, recording.as_bytes());
         assert!(matches!(report.verdict, Verdict::Refused(refusal) if refusal.number == number));
         assert_eq!((report.steps, report.constraints), (0, 2));
         assert_eq!(report.configuration, words(&[9, 1]));
@@ -341,7 +342,7 @@ fn reading_35_an_ignored_variable_may_tick_any_number_of_times() {
 
 #[test]
 fn reading_36_with_no_mark_the_recording_is_accepted_with_the_start_words() {
-    let report = run(b"c clockDef a sampled b", HEADER.as_bytes());
+    let report = run_ignoring(b"c clockDef a sampled b", HEADER.as_bytes());
     assert_eq!((report.verdict, report.steps), (ACCEPTED, 0));
     assert_eq!(report.configuration, words(&[2]));
 }
@@ -356,7 +357,7 @@ fn m_100_reading_1_each_value_before_an_id_is_a_tick() {
         let with_b = format!("#1 {value}! 1\"");
         assert_eq!(body(&with_b), violated(1, 1, 0), "{value}");
         let recording = format!("{HEADER}#1 {value}! #2 #3 {value}! #4 {value}\"");
-        let report = run(table, recording.as_bytes());
+        let report = run_ignoring(table, recording.as_bytes());
         assert_eq!((report.verdict, report.steps), (ACCEPTED, 4), "{value}");
         assert_eq!(report.configuration, words(&[1, 1]), "{value}");
     }
@@ -375,7 +376,7 @@ fn m_100_reading_1_all_that_follows_the_first_byte_is_the_id() {
     assert_eq!(ask("#1 x"), refused_run(40, header.len() + 3, 0));
     let chain = b"a precedes b\nb precedes c";
     let recording = format!("{header}#1 xx #2 xx #3 xx #4 00 #5 00 #6 x#");
-    let report = run(chain, recording.as_bytes());
+    let report = run_ignoring(chain, recording.as_bytes());
     assert_eq!((report.verdict, report.steps), (ACCEPTED, 6));
     assert_eq!(report.configuration, words(&[1, 1]));
 }
@@ -517,19 +518,19 @@ fn a_stop_gives_the_steps_accepted_so_far_and_the_configuration_after_them() {
     let table = b"a strictly precedes b\nc clockDef await 3 a";
     let start = format!("{HEADER}#1 1! #2 1! #3");
     for stop in [" 1\" 1%", " x", " 1\" 1\"", " 1?"] {
-        let report = run(table, format!("{start}{stop}").as_bytes());
+        let report = run_ignoring(table, format!("{start}{stop}").as_bytes());
         assert_ne!(report.verdict, ACCEPTED, "{stop}");
         assert_eq!(report.steps, 2, "{stop}");
         assert_eq!(report.configuration, words(&[2, 1]), "{stop}");
     }
-    let report = run(table, format!("{start} 1\" #3").as_bytes());
+    let report = run_ignoring(table, format!("{start} 1\" #3").as_bytes());
     assert_eq!(report.steps, 3);
     assert_eq!(report.configuration, words(&[1, 1]));
 }
 
 #[test]
 fn the_step_count_and_the_recorded_time_are_kept_apart() {
-    let report = run(
+    let report = run_ignoring(
         b"a # b",
         format!("{HEADER}#100 #2000 #30000 1! 1\"").as_bytes(),
     );

@@ -3,21 +3,23 @@ use mathlib.Core.Path.{ap, _∙_}
 use mathlib.Core.List.{List, [], _∷_}
 use Prim.Native.Nat.{ℕ}
 use lib.Seq.{sets}
-use Rattle.run.specs.Run.{said}
+use Rattle.run.specs.Run.{said, runOf}
 use Rattle.monitor_c.specs.Calls.{written, done, left, runLeft}
 use Rattle.monitor_c.specs.Numbers.{ofRun, answerAnd}
-use Rattle.monitor_c.proofs.CallLaws.{stored-behind, run-answer-short, run-words-short, run-done}
+use Rattle.monitor_c.proofs.CallLaws.{stored-behind, run-answer-short, run-words-short, run-choice-invalid, run-done}
 use borrow.Author.Needs.{needs}
 use Rattle.monitor_c.proofs.ccsl_run.Statement.{statement}
 use Rattle.monitor_c.proofs.ccsl_run.Tie as tie
 
-returns-3 : tie.Need-returns-3
-returns-3 c =
+returns-4 : tie.Need-returns-4
+returns-4 c =
     let words = c .before .put-words in
     let put = c .before .before .before .before .before in
     let numbers = put .before in
     let ran = numbers .before .before .before .before in
-    let e2 = ran .before in
+    let choice = ran .before in
+    let e3 = choice .before in
+    let e2 = e3 .before in
     let e1 = e2 .before in
     let s = e1 .before .before .before .before .args in
     let q = ran .run .result in
@@ -28,15 +30,17 @@ returns-3 c =
     ∙ ap (λ v. left done (sets (written (answerAnd v []) out) 3 counts) (words .last .0)) (numbers .verdict-numbers .ensures)
     ∙ ap (λ a. left done a (words .last .0)) (stored-behind (ofRun (said (q .verdict))) counts out (e1 .if1 .left))
     ∙ ap (λ w. left done (written (answerAnd (ofRun (said (q .verdict))) counts) out) w) (words .ensures)
-    ∙ ap (λ t. runLeft t out ws) (ran .run .ensures)
-    ∙ run-done (s .table .now) (s .recording .now) out ws (e1 .if1 .left) (e2 .if2 .left)
+    ∙ ap (λ t. runLeft t out ws) (ran .run .ensures ∙ ap (runOf (s .table .now) (s .recording .now)) (choice .unknown-of .ensures))
+    ∙ run-done (s .table .now) (s .recording .now) (s .unknown) out ws (e1 .if1 .left) (e2 .if2 .left) (e3 .if3 .left)
 
 pub ccsl-run-spec : {M : Type 1} → statement M
 ccsl-run-spec =
     tie.close
     (tie.spec
-    (λ c. run-answer-short _ _ _ _ (c .if1 .taken))
-    (λ c. run-words-short _ _ _ _ (c .before .if1 .left) (c .if2 .taken))
+    (λ c. run-answer-short _ _ _ _ _ (c .if1 .taken))
+    (λ c. run-words-short _ _ _ _ _ (c .before .if1 .left) (c .if2 .taken))
+    (λ c. run-choice-invalid _ _ _ _ _ (c .before .before .if1 .left) (c .before .if2 .left) (c .if3 .taken))
+    (λ c κs. search needs)
     (λ c κs. search needs)
     (λ c κs. search needs)
     (λ c κs. search needs)
@@ -45,4 +49,4 @@ ccsl-run-spec =
     (λ c κs. search needs)
     (λ c. search needs)
     (λ c. search needs)
-    returns-3)
+    returns-4)

@@ -12,6 +12,7 @@ pub mod ticks;
 
 use crate::case::Case;
 use crate::random::Random;
+use ccsl::UnknownNames;
 use recordings::{Plan, Recording};
 use second_opinion::Table;
 use tables::Size;
@@ -128,9 +129,22 @@ fn table_and_recording(
 
 fn run(random: &mut Random, plan: fn(&mut Random) -> Plan) -> Case {
     let (table, _, recording) = table_and_recording(random, plan);
+    let recording = recording.write(random);
+    run_of(random, table, recording)
+}
+
+/// A run of texts. Unknown names are refused once in three times: a third of the recordings have some,
+/// and most of these are to come to their steps.
+fn run_of(random: &mut Random, table: Vec<u8>, recording: Vec<u8>) -> Case {
+    let unknown = if random.once_in(3) {
+        UnknownNames::Refused
+    } else {
+        UnknownNames::Ignored
+    };
     Case::Run {
         table,
-        recording: recording.write(random),
+        recording,
+        unknown,
     }
 }
 
@@ -143,7 +157,7 @@ fn changed_recording(
     let (table, _, recording) = table_and_recording(random, plan);
     let mut recording = recording.write(random);
     change(random, &mut recording);
-    Case::Run { table, recording }
+    run_of(random, table, recording)
 }
 
 fn recording_limits(random: &mut Random) -> Case {
@@ -153,10 +167,7 @@ fn recording_limits(random: &mut Random) -> Case {
     if random.once_in(10) {
         recording_limits::strange_byte(random, &mut recording);
     }
-    Case::Run {
-        table: text,
-        recording,
-    }
+    run_of(random, text, recording)
 }
 
 /// Reads a table, or runs it with a recording of its clocks, if it has any.
@@ -167,8 +178,5 @@ fn read_or_run(random: &mut Random, text: Vec<u8>) -> Case {
     let table = second_opinion::read_table(&text).unwrap_or_default();
     let plan = Plan::small(random);
     let recording = recordings::recording(random, &table, plan).write(random);
-    Case::Run {
-        table: text,
-        recording,
-    }
+    run_of(random, text, recording)
 }

@@ -1,4 +1,4 @@
-//! Recordings at both sides of the limits 30 to 44.
+//! Recordings at both sides of the limits 30 to 44; 38 is one where unknown names are refused.
 
 use super::recordings::{any_id, change, command, value, variable, word, Recording};
 use super::tables::Word;
@@ -8,11 +8,12 @@ use second_opinion::Table;
 /// A fault, or something that is just no fault, put into the words of a recording.
 type Spoil = fn(&mut Random, &Table, &mut Recording);
 
-const SPOILS: [(usize, Spoil); 14] = [
+const SPOILS: [(usize, Spoil); 15] = [
     (4, strange_command),
     (3, strange_end),
     (6, variable_shape),
     (5, declared_again),
+    (8, unknown_name),
     (3, undeclared_clock),
     (2, many_variables),
     (4, cut_off),
@@ -120,6 +121,51 @@ fn declared_again(random: &mut Random, table: &Table, recording: &mut Recording)
         let place = random.below(recording.header.len());
         recording.header.insert(place, declaration);
     }
+}
+
+/// 38, alone or beside other limits of the header: a name that the table lacks, mostly one that is
+/// nearly a clock's.
+fn unknown_name(random: &mut Random, table: &Table, recording: &mut Recording) {
+    let name = misspelt(random, table);
+    let mut new = variable(&any_id(random, 4), &name);
+    let places = declarations(recording);
+    let place = random.below(recording.header.len());
+    match random.below(6) {
+        // 35 behind it, if it was the name of a clock.
+        0 | 1 if !places.is_empty() => {
+            recording.header[random.pick(&places)] = new;
+            return;
+        }
+        // 34 before it, if it stands behind the variable with this id.
+        2 if !recording.ids.is_empty() => new[3] = random.pick(&recording.ids),
+        // 33 before it.
+        3 => new[random.pick(&[1, 2, 5])] = word("wire"),
+        // 36 before it.
+        4 => {
+            new.truncate(5);
+            recording.header.truncate(place);
+            recording.body.clear();
+        }
+        _ => {}
+    }
+    recording.header.insert(place, new);
+}
+
+/// The name of a clock with a letter of the other case, with a byte more or less, or with two bytes
+/// exchanged; or another name.
+fn misspelt(random: &mut Random, table: &Table) -> Word {
+    if table.names.is_empty() || random.once_in(4) {
+        return word(random.pick_word("other x lub await $end #0 a_name_of_over_16_bytes"));
+    }
+    let mut name = random.pick(&table.names).into_bytes();
+    let place = random.below(name.len());
+    match random.below(4) {
+        0 => name[place] ^= 0x20 * u8::from(name[place].is_ascii_alphabetic()),
+        1 => name.insert(random.below(name.len() + 1), b'a'),
+        2 if name.len() > 1 => drop(name.remove(place)),
+        _ => name.swap(0, place),
+    }
+    name
 }
 
 /// 35, or no fault where the variable is ignored: a declaration is taken out.

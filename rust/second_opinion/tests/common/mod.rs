@@ -98,9 +98,14 @@ pub const HEADER: &str =
 /// "Each of 0, 1, x, X, z, Z before an id is now a tick" (M-100).
 pub const VALUES: [&str; 6] = ["0", "1", "x", "X", "z", "Z"];
 
-/// The verdict and the steps of a run.
+/// A run with the choice to ignore names that the table lacks (M-103).
+pub fn run_ignoring(table: &[u8], recording: &[u8]) -> Report {
+    run(table, recording, UnknownNames::Ignored)
+}
+
+/// The verdict and the steps of a run that ignores unknown names.
 pub fn verdict(table: &str, recording: impl AsRef<[u8]>) -> (Verdict, u64) {
-    let report = run(table.as_bytes(), recording.as_ref());
+    let report = run_ignoring(table.as_bytes(), recording.as_ref());
     (report.verdict, report.steps)
 }
 

@@ -17,13 +17,13 @@ use Rattle.recording.proofs.header.commands.Statement.{statement}
 use Rattle.recording.proofs.header.commands.Tie as tie
 
 abbrev Inv-loop : tie.InvT-loop
-Inv-loop table names recording variables₀ at₀ variables at =
+Inv-loop table names recording unknown variables₀ at₀ variables at =
     Indexed variables
-    × (header (namingIn table names) recording (declared variables) (words recording at)
-    ≡ header (namingIn table names) recording [] (words recording 0))
+    × (header (namingIn table names unknown) recording (declared variables) (words recording at)
+    ≡ header (namingIn table names unknown) recording [] (words recording 0))
 
 abbrev μ-loop : tie.MeasureT-loop
-μ-loop table names recording variables₀ at₀ variables at = length recording - at
+μ-loop table names recording unknown variables₀ at₀ variables at = length recording - at
 
 -- what the word at hand opens
 opened : (c : tie.After-command Inv-loop μ-loop) (k : Command) → c .command .result ≡ k

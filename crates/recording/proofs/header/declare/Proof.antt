@@ -9,9 +9,9 @@ use Rattle.constraint.proofs.Walk.{length-mapped}
 use Rattle.text.specs.Split.{bytesOf}
 use Rattle.limit.specs.Checked.{passed}
 use Rattle.recording.specs.Header.{shaped}
-use Rattle.recording.specs.Variables.{clockNamed, lookUp, isDeclared, clockAgain}
+use Rattle.recording.specs.Variables.{clockNamed, refusesUnknown, lookUp, isDeclared, clockAgain}
 use Rattle.recording.specs.Index.{declared}
-use Rattle.recording.proofs.HeaderLaws.{shaped-short, declare-shape, declare-twice, declare-full, declare-more}
+use Rattle.recording.proofs.HeaderLaws.{shaped-short, declare-shape, declare-twice, declare-unknown, declare-full, declare-more}
 use Rattle.recording.proofs.VariableLaws.{length-variables, declared-more}
 use borrow.Author.Needs.{needs}
 use Rattle.recording.proofs.header.declare.Statement.{statement}
@@ -33,6 +33,12 @@ twice-is : (c : tie.After-clock-again) →
 twice-is c =
     let p = c .before .before in
     rw (c .clock-again .ensures, clock-is (p .before), c .before .is-declared .ensures, p .part2 .ensures)
+
+-- what the test of 38 answers
+unknown-is : (c : tie.After-refuses-unknown) →
+    let s = c .before .before .before .before .before .before .before .before .before .before .before .args in
+    c .refuses-unknown .result ≡ refusesUnknown (s .unknown) (clockNamed (now (s .table)) (s .names) (bytesOf (now (s .recording)) (s .words .name)))
+unknown-is c = c .refuses-unknown .ensures ∙ rw (clock-is (c .before .before .before .before .before))
 
 count-is : (c : tie.Start) → length (declared (c .args .variables)) ≡ c .args .variables .count
 count-is c =
@@ -56,31 +62,44 @@ returns-2 c =
 
 returns-3 : tie.Need-returns-3
 returns-3 c =
-    let n = c .before .before .before in
+    let f = c .before .before in
+    let n = f .before in
     let g = n .before in
     let e = g .before .before .before .before .before in
-    let s = e .before .before .before .before in
     let u = c .undeclared3 .ensures in
-    (u .0 ∙ sym (declare-full _ _ _ _ _ _ _ _ _ (fits e) (sym (twice-is g) ∙ n .if2 .left) (omega (arith, count-is s, c .before .if3 .taken))), rw (u .1) (s .pre))
-
-code-requires : tie.Need-code-requires
-code-requires c κs =
-    let e = c .before .before .before .before .before .before .before .before .before in
-    let w = e .before .before .before .before .args .words in
-    rw (c .part3 .ensures) (shaped-short _ (w .kind) (w .width) (w .id) (w .last) (fits e))
+    (u .0 ∙ sym (declare-unknown _ _ _ _ _ _ _ _ _ (fits e) (sym (twice-is g) ∙ n .if2 .left) (sym (unknown-is f) ∙ c .before .if3 .taken)), rw (u .1) (e .before .before .before .before .pre))
 
 returns-4 : tie.Need-returns-4
 returns-4 c =
-    let k = c .before in
-    let p = k .before in
-    let n = p .before .before .before in
+    let k = c .before .before .before in
+    let f = k .before in
+    let n = f .before in
+    let g = n .before in
+    let e = g .before .before .before .before .before in
+    let s = e .before .before .before .before in
+    let u = c .undeclared4 .ensures in
+    (u .0 ∙ sym (declare-full _ _ _ _ _ _ _ _ _ (fits e) (sym (twice-is g) ∙ n .if2 .left) (sym (unknown-is f) ∙ k .if3 .left) (omega (arith, count-is s, c .before .if4 .taken))), rw (u .1) (s .pre))
+
+code-requires : tie.Need-code-requires
+code-requires c κs =
+    let e = c .before .before .before .before .before .before .before .before .before .before .before in
+    let w = e .before .before .before .before .args .words in
+    rw (c .part3 .ensures) (shaped-short _ (w .kind) (w .width) (w .id) (w .last) (fits e))
+
+returns-5 : tie.Need-returns-5
+returns-5 c =
+    let i = c .before in
+    let p = i .before in
+    let k = p .before .before .before in
+    let f = k .before in
+    let n = f .before in
     let g = n .before in
     let e = g .before .before .before .before .before in
     let s = e .before .before .before .before in
     let w = s .args .words in
     let b = p .part3 .ensures in
-    let id = declared-more (declared (s .args .variables)) (bytesOf (now (s .args .recording)) (w .id)) _ _ _ (k .code .ensures .0 ∙ rw b) (rw b at (k .code .ensures .1)) (shaped-short _ (w .kind) (w .width) (w .id) (w .last) (fits e)) (clock-is (g .before .before .before)) in
-    (ap passed (c .with-variable .ensures .0 ∙ id) ∙ sym (declare-more _ _ _ _ _ _ _ _ _ (fits e) (sym (twice-is g) ∙ n .if2 .left) (omega (arith, count-is s, p .before .if3 .left))), c .with-variable .ensures .1)
+    let id = declared-more (declared (s .args .variables)) (bytesOf (now (s .args .recording)) (w .id)) _ _ _ (i .code .ensures .0 ∙ rw b) (rw b at (i .code .ensures .1)) (shaped-short _ (w .kind) (w .width) (w .id) (w .last) (fits e)) (clock-is (g .before .before .before)) in
+    (ap passed (c .with-variable .ensures .0 ∙ id) ∙ sym (declare-more _ _ _ _ _ _ _ _ _ (fits e) (sym (twice-is g) ∙ n .if2 .left) (sym (unknown-is f) ∙ k .if3 .left) (omega (arith, count-is s, p .before .if4 .left))), c .with-variable .ensures .1)
 
 pub declare-spec : {M : Type 1} → statement M
 declare-spec =
@@ -97,8 +116,11 @@ declare-spec =
     (λ c κs. search needs)
     returns-2
     (λ c κs. search needs)
+    (λ c κs. search needs)
     returns-3
+    (λ c κs. search needs)
+    returns-4
     (λ c κs. search needs)
     code-requires
     (λ c κs. search needs)
-    returns-4)
+    returns-5)
