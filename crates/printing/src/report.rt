@@ -108,7 +108,8 @@ pub fn report_text(report: Report, buffer: &mut [u8; ROOM]) -> usize
     config_line(buffer, b, report.configuration, report.constraints)
 }
 
-// Puts what the program prints of a table and a recording, with a choice what becomes of names that the table lacks, at the front of a buffer, and answers how many bytes that are.
+// Puts what the program prints of a table and a recording, with a choice what becomes of names that the table lacks, at the front of a
+// buffer, and answers how many bytes that are.
 pub fn run_text(
     table: &[u8],
     recording: &[u8],

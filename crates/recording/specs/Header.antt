@@ -130,7 +130,7 @@ cut-off : header (noClock Refused) (ascii "$var 1") [] (words (ascii "$var 1") 0
 unfolding header declaring sameBytes tokens filled grown
 cut-off = refl
 
--- by the command at 30, a variable with a name that the table lacks: it is refused there, or ignored; before that, its id declared before is
+-- a variable with a name that the table lacks, by the command at 30: it is refused there, or ignored; an id that was declared before comes first
 abbrev at : (start end : ℕ) → Span
 at i j = record { start = i; end = j }
 

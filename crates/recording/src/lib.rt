@@ -1,5 +1,5 @@
 // The recording: its header into variables, and its body into steps, each closed by the mark behind it or by the end; or the first
-// refusal of 30 to 44: document 01, "Recording", with the values of document 02, M-100.
+// refusal of 30 to 44: document 01, "Recording", with the values of document 02, M-100, and 38 of M-103.
 
 mod body;
 mod header;
