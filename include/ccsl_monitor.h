@@ -32,7 +32,7 @@ enum {
     CCSL_RECORDS_RAGGED = 5, /* the calls on records: the numbers of `records` do not come in sixes */
     CCSL_KIND_UNKNOWN = 6,   /* the same calls: a record's kind is above CCSL_UPTO */
     CCSL_ORDER_SHORT = 7,    /* ccsl_definition_order: `order` has fewer than CCSL_CLOCKS numbers */
-    CCSL_CHOICE_INVALID = 8  /* ccsl_run: `unknown` is none of the two choices */
+    CCSL_CHOICE_INVALID = 8  /* ccsl_run: `unknown` is neither of the two choices */
 };
 
 /* The first number of every answer. */

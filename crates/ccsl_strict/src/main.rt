@@ -1,4 +1,4 @@
-// The same program for the desk: a variable whose name the table lacks is refused (38).
+// The strict program: as ccsl_monitor, but a variable whose name the table lacks is refused (38).
 use recording::UnknownNames;
 
 fn main() {

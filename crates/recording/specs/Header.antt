@@ -1,5 +1,5 @@
 -- The header: document 01, "Recording" and the rows 30 to 37 of "Where each refusal is checked", with 38 of document 02, M-103. r is the
--- recording, g what the table says of names. Assumes nothing.
+-- recording, g what its header is read by: the table's names, and the choice what becomes of others. Assumes nothing.
 use mathlib.Core.Path.{_≡_, refl}
 use mathlib.Core.Bool.{Bool, true, not, cond, _&&_, _||_}
 use mathlib.Core.List.{List, [], _∷_, _++_}

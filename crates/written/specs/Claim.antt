@@ -1,5 +1,6 @@
 -- The claims: a recording that may be written is read as the steps that it was written from, with these ticks and times, and ends with the
--- end; and a variable whose name the table lacks is refused, where such are. g is what the table says of names. Assumes nothing.
+-- end; and a variable whose name the table lacks is refused where the choice says so. g is what the header is read by: the table's names, and the
+-- choice what becomes of others. Assumes nothing.
 use mathlib.Core.Path.{_≡_, refl}
 use mathlib.Core.Bool.{Bool, true, cond, _&&_}
 use mathlib.Core.List.{List, [], _∷_, _++_, map}
@@ -87,6 +88,7 @@ pub record Declarable (g : Naming) (vs : List WrittenVariable) : Type 0 where
   pub once : Apart (λ u v. Differ (g .named (u .name)) (g .named (v .name))) vs
   -- document 02, M-103: where a name that the table lacks is refused, all are the table's
   pub known : g .unknown ≡ Refused → Each (λ v. g .named (v .name) ≡ ignored → ⊥) vs
+  -- there are at most 128
   pub few : length vs ≤ 128
 
 pub record Writable (g : Naming) (vs : List WrittenVariable) (ss : List WrittenStep) : Type 0 where

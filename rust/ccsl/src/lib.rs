@@ -483,7 +483,11 @@ fn clock(text: &[u8], ends: &[u64]) -> Clock {
 
 /// The lists that this crate hands in always have the right shape, and its choices are the header's.
 fn done(status: u32) {
-    assert_eq!(status, raw::DONE, "a list of the wrong shape was handed in");
+    assert_eq!(
+        status,
+        raw::DONE,
+        "the library does not take what was handed in"
+    );
 }
 
 impl fmt::Display for Steps {

@@ -1,7 +1,7 @@
 //! The calls of `include/ccsl_monitor.h` on lent lists: the only place of this crate with `unsafe`.
 //!
-//! Each function here takes every list, of any length and with any numbers in it, and any other
-//! number, and returns the header's status.
+//! Each function here takes lists of any length with any numbers in them, and any numbers beside
+//! them, and returns the header's status.
 
 mod header {
     extern "C" {
@@ -93,7 +93,7 @@ pub const RECORDS_RAGGED: u32 = 5;
 pub const KIND_UNKNOWN: u32 = 6;
 /// [`definition_order`]: `order` has fewer than 32 numbers.
 pub const ORDER_SHORT: u32 = 7;
-/// [`run`]: `unknown` is none of the two choices.
+/// [`run`]: `unknown` is neither of the two choices.
 pub const CHOICE_INVALID: u32 = 8;
 
 /// [`run`]: a variable whose name the table lacks is refused, with 38. The default.
