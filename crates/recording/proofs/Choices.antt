@@ -1,19 +1,19 @@
 -- With unknown names refused, a recording is read as with unknown names ignored, or it is refused with 38: the two headers differ where a name is
 -- met that the table lacks, and there alone. Assumes nothing.
-use mathlib.Core.Path.{_≡_, refl, ap, _∙_}
+use mathlib.Core.Path.{_≡_, refl, ap}
 use mathlib.Core.Logic.{_⊎_, inl, inr}
 use mathlib.Core.Bool.{Bool, true, false, not, cond, _||_}
 use mathlib.Core.List.{List, [], _∷_}
 use Prim.Native.Nat.{ℕ}
-use lib.Dec.{eqb, leb, ltb}
+use lib.Dec.{eqb, ltb}
 use lib.ListN.{length}
 use Rattle.limit.specs.Checked.{Checked, passed, stopped, refuseIf, andThen}
 use Rattle.limit.specs.declared.Limit.{Limit}
 use Rattle.limit.specs.declared.Limit.the-variants.{VariableUnknown}
 use Rattle.text.specs.Split.{bytesOf}
 use Rattle.text.specs.declared.Span.{Span}
-use Rattle.recording.specs.Body.{refusedAt, Reading, endsWith, onward, bodyOf, reading}
-use Rattle.recording.specs.Header.{says, commandOf, shaped, declare, Header, close, byCommand, header, skipping, declaring, mostBytes, firstOther, opened, words}
+use Rattle.recording.specs.Body.{refusedAt, endsWith, onward, bodyOf, reading}
+use Rattle.recording.specs.Header.{says, commandOf, shaped, declare, Header, byCommand, header, skipping, declaring, mostBytes, firstOther, opened, words}
 use Rattle.recording.specs.Variables.{Variable, ignored, Naming, lookUp, isDeclared, clockAgain}
 use Rattle.recording.specs.declared.Command.{Command}
 use Rattle.recording.specs.declared.Command.the-variants.{Skipped, Declaration, Definitions, Unknown}
