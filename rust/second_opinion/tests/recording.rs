@@ -73,14 +73,7 @@ fn bytes_33_to_126_stand_in_words() {
 
 #[test]
 fn the_header_skips_six_commands_up_to_their_end() {
-    for command in [
-        "$date",
-        "$version",
-        "$comment",
-        "$timescale",
-        "$scope",
-        "$upscope",
-    ] {
+    for command in SKIPPED {
         let recording = format!("{command} x $var {END} $enddefinitions $end");
         assert_eq!(bare(&recording), (ACCEPTED, 0), "{command}");
         let recording = format!("{command} $end {END} #1");

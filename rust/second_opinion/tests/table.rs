@@ -123,19 +123,7 @@ fn reading_2_15_before_16_before_17_before_18() {
 
 #[test]
 fn reading_3_form_words_are_not_names_and_case_matters() {
-    for word in [
-        "isSubClockOf",
-        "strictly",
-        "precedes",
-        "clockDef",
-        "clockUnion",
-        "clockInter",
-        "lub",
-        "glb",
-        "await",
-        "sampled",
-        "upto",
-    ] {
+    for word in FORM_WORDS {
         assert_eq!(table_refusal(format!("{word} = b")), (12, 1), "{word}");
         assert_eq!(table_refusal(format!("b = {word}")), (12, 1), "{word}");
         let capital = word.to_uppercase();

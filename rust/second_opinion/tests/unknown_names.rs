@@ -238,24 +238,8 @@ fn reading_42_form_words_signs_and_numbers_are_no_names() {
     let table = "a isSubClockOf b\na strictly precedes b\na = b\na # b\n\
         c clockDef a clockUnion b\nd clockDef a clockInter b\ne clockDef a lub b\n\
         f clockDef a glb b\ng clockDef await 3 a\nh clockDef a sampled b\ni clockDef a upto b";
-    for name in [
-        "isSubClockOf",
-        "strictly",
-        "precedes",
-        "clockDef",
-        "clockUnion",
-        "clockInter",
-        "lub",
-        "glb",
-        "await",
-        "sampled",
-        "upto",
-        "=",
-        "#",
-        "3",
-        "$end",
-        "$var",
-    ] {
+    let others = ["=", "#", "3", "$end", "$var"];
+    for name in FORM_WORDS.into_iter().chain(others) {
         let recording = format!("{KNOWN}$var event 1 ? {name} $end {END}");
         assert_eq!(refusing(table, recording), refused_run(38, 22, 0), "{name}");
     }
@@ -361,14 +345,7 @@ fn reading_43_with_the_choice_to_refuse_37_is_not_reached() {
 
 #[test]
 fn m_103_a_var_in_a_skipped_command_is_not_refused() {
-    for command in [
-        "$date",
-        "$version",
-        "$comment",
-        "$timescale",
-        "$scope",
-        "$upscope",
-    ] {
+    for command in SKIPPED {
         // The variable's `$end` ends the command.
         let recording = format!("{command} {UNKNOWN}{HEADER}#1 1!");
         assert_eq!(either(TABLE, recording), (ACCEPTED, 1), "{command}");

@@ -95,6 +95,31 @@ pub fn table(text: impl AsRef<[u8]>) -> Table {
 pub const HEADER: &str =
     "$var event 1 ! a $end $var event 1 \" b $end $var event 1 % c $end $enddefinitions $end ";
 
+/// "the form words below are not names"
+pub const FORM_WORDS: [&str; 11] = [
+    "isSubClockOf",
+    "strictly",
+    "precedes",
+    "clockDef",
+    "clockUnion",
+    "clockInter",
+    "lub",
+    "glb",
+    "await",
+    "sampled",
+    "upto",
+];
+
+/// The commands that the header skips "up to their `$end`".
+pub const SKIPPED: [&str; 6] = [
+    "$date",
+    "$version",
+    "$comment",
+    "$timescale",
+    "$scope",
+    "$upscope",
+];
+
 /// "Each of 0, 1, x, X, z, Z before an id is now a tick" (M-100).
 pub const VALUES: [&str; 6] = ["0", "1", "x", "X", "z", "Z"];
 
