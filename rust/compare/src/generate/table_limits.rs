@@ -348,11 +348,13 @@ fn pairs_of(lines: &Lines) -> usize {
 }
 
 /// 17 and its other side: relations of new clocks, and implicit ones, up to 31 clocks or more; the
-/// last line may bring two or three.
+/// last line may bring two or three. The lines may have such names already: a line that brought none
+/// is left, and the next one's numbers are higher.
 fn many_clocks(random: &mut Random, lines: &mut Lines) {
     let wanted = random.within(30..=34);
     let count_of = |lines: &Lines| clocks_of(lines).len() + pairs_of(lines);
     let mut count = count_of(lines);
+    let mut skipped = 0;
     let new = |number: usize| format!("Q{number}").into_bytes();
     let nesting = pairs_of(lines) > 0 && random.once_in(2);
     while count < wanted {
@@ -363,23 +365,22 @@ fn many_clocks(random: &mut Random, lines: &mut Lines) {
                 continue;
             }
         }
+        let next = count + skipped;
         let line = match random.below(3) {
-            0 => vec![new(count), b"#".to_vec(), new(count + 1)],
+            0 => vec![new(next), b"#".to_vec(), new(next + 1)],
             1 => vec![
-                new(count),
+                new(next),
                 b"clockDef".to_vec(),
-                new(count + 1),
+                new(next + 1),
                 b"lub".to_vec(),
-                new(count + 2),
+                new(next + 2),
             ],
-            _ => vec![
-                new(count.saturating_sub(1)),
-                b"precedes".to_vec(),
-                new(count),
-            ],
+            _ => vec![new(next.saturating_sub(1)), b"precedes".to_vec(), new(next)],
         };
         lines.0.push(line);
+        let before = count;
         count = count_of(lines);
+        skipped += usize::from(count == before);
     }
 }
 
@@ -437,5 +438,21 @@ fn length(random: &mut Random, text: &mut Vec<u8>) {
         let more = vec![byte; wanted - text.len()];
         let place = if random.once_in(2) { text.len() } else { 0 };
         text.splice(place..place, more);
+    }
+}
+
+#[cfg(test)]
+mod tests {
+    use super::*;
+
+    #[test]
+    fn clocks_are_added_where_the_lines_have_names_of_the_new_kind() {
+        for pair in 0..200 {
+            let named = |number: usize| format!("Q{number}").into_bytes();
+            let relation = |number| vec![named(number), b"#".to_vec(), named(number + 1)];
+            let mut lines = Lines((5..9).map(relation).collect());
+            many_clocks(&mut Random::of_pair(33, pair), &mut lines);
+            assert!((30..=36).contains(&clocks_of(&lines).len()));
+        }
     }
 }
