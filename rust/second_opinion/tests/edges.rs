@@ -161,6 +161,40 @@ fn a_time_of_2_to_the_64_less_1_is_read_and_2_to_the_64_is_41() {
 }
 
 #[test]
+fn times_with_and_without_a_last_digit_about_that_of_2_to_the_64() {
+    let zeros = "0".repeat(21);
+    let read = [
+        ("18446744073709551609", 18446744073709551609),
+        ("18446744073709551610", 18446744073709551610),
+        ("1844674407370955161", 1844674407370955161),
+        ("1844674407370955162", 1844674407370955162),
+        ("9999999999999999999", 9999999999999999999),
+    ];
+    for (digits, time) in read {
+        let violated = Verdict::Violated { line: 1, time };
+        for digits in [digits.to_string(), zeros.clone() + digits] {
+            let recording = format!("{HEADER}#{digits} 1! 1\"");
+            assert_eq!(verdict("a # b", recording), (violated, 0));
+        }
+    }
+    let too_large = [
+        "18446744073709551619",
+        "18446744073709551620",
+        "20000000000000000000",
+        "100000000000000000000",
+    ];
+    for digits in too_large {
+        for digits in [digits.to_string(), zeros.clone() + digits] {
+            let recording = format!("{HEADER}#{digits} 1! 1\"");
+            assert_eq!(
+                verdict("a # b", recording),
+                refused_run(41, HEADER.len(), 0)
+            );
+        }
+    }
+}
+
+#[test]
 fn equal_times_are_41() {
     let recording = format!("{HEADER}#5 #5");
     assert_eq!(
