@@ -1,5 +1,6 @@
 //! The reader of time marks and the decimal reader divide nowhere (M-104): not in their source, nor in
-//! that of what they call, nor in the built library. Copies with a division show that each test can fail.
+//! that of what they call, nor in the built library. Copies of the sources with a division, and object
+//! code with one, show that each test can fail.
 
 use std::collections::BTreeSet;
 use std::fs;
