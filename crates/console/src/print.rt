@@ -19,12 +19,19 @@ pub fn say_field(label: &[u8], n: u64) {
     say_number(n);
 }
 
-// A word, with a minus sign where it is negative.
+// A constraint's part of a configuration: its first word, with a minus sign where it is negative, and where the second is not 0, a slash and
+// the second.
 pub fn say_word(w: Word) {
-    if constraint::below(w) {
+    let first = constraint::first(w);
+    let second = constraint::magnitude(constraint::second(w));
+    if first < 0 {
         say(b"-");
     }
-    say_number(constraint::magnitude(w));
+    say_number(constraint::magnitude(first));
+    if second == 0 {
+        return;
+    }
+    say_field(b"/", second);
 }
 
 // The limit's number and the place of a refusal.

@@ -1,28 +1,32 @@
 -- What the other crates cite of a constraint's meaning, beside `Named` (a form looks only at the clocks that it names) and
 -- `TickSets` (tick sets as numbers): the empty tick set, start words, and where the next word lies. Assumes nothing.
-use mathlib.Core.Path.{_≡_, refl, ap}
+use mathlib.Core.Path.{_≡_, refl, ap, _∙_}
 use mathlib.Core.Logic.{_⊎_, inl, inr}
 use mathlib.Core.Bool.{Bool, true, false, not, cond, _&&_, _||_, and-false, or-true, true≢false, false≢true}
-use Prim.Native.Nat.{ℕ, zero, suc, _<_, _≤_}
+use Prim.Native.Nat.{ℕ, zero, suc, _+_, _*_, _/_, _<_, _≤_}
 use native.Mathlib.Decide.{decLt}
 use native.Mathlib.Omega.{arith}
 use borrow.Author.Tests.{leb-true, le-leb}
 use lib.Dec.{leb}
 use lib.IntN.{ℤ, pos, negsuc}
-use Rattle.constraint.specs.Meaning.{word, positive, above, is, due, holdsWhen, counterOf, counterRange, fits, tally, change, moved, holds, nextWord, start, inRange}
-use Rattle.constraint.specs.Ticks.{Ticks, none}
+use lib.ListN.{length, getD}
+use Rattle.constraint.specs.Meaning.{word, positive, above, is, numbers, planned, delayed, due, holdsWhen, counterOf, awaited, counterRange, fits, tally, change, moved, holds, nextWord, start, inRange}
+use Rattle.constraint.specs.Pairs.{together}
+use Rattle.constraint.specs.Ticks.{Ticks, none, withTick}
 use Rattle.constraint.specs.declared.Change.the-variants.{Keep, Zero, One}
 use Rattle.constraint.specs.declared.Constraint.{Constraint}
 use Rattle.constraint.specs.declared.Counter.{Counter}
-use Rattle.constraint.specs.declared.Counter.the-variants.{Fixed, Gap, Lead, Countdown, StrictSample, Sample, Until}
+use Rattle.constraint.specs.declared.Counter.the-variants.{Fixed, Gap, Lead, Countdown, StrictSample, Sample, Until, Pending}
 use Rattle.constraint.specs.declared.Definition.{Definition}
-use Rattle.constraint.specs.declared.Definition.the-variants.{Union, Inter, Lub, Glb, Await, StrictlySampled, Sampled, Upto}
+use Rattle.constraint.specs.declared.Definition.the-variants.{Union, Inter, Lub, Glb, Await, StrictlySampled, Sampled, Upto, Deferred}
 use Rattle.constraint.specs.declared.Kind.{Kind}
 use Rattle.constraint.specs.declared.Kind.the-variants.{Empty, Relates, Defines}
 use Rattle.constraint.specs.declared.Parameter.{Parameter}
 use Rattle.constraint.specs.declared.Relation.the-variants.{Coincides, Excludes, SubClock, StrictlyPrecedes, Precedes}
 use Rattle.constraint.specs.declared.Word.{Word}
 use Rattle.constraint.proofs.Booleans.{and-l, and-r}
+use Rattle.constraint.proofs.Delay.{planned-at, delayed-is, number-left, plan-small}
+use Rattle.constraint.proofs.Words.{DelayWord, delay-word}
 
 -- ---- the empty tick set holds in every form and moves no word
 
@@ -35,6 +39,7 @@ due-none Await w = simp and-false
 due-none StrictlySampled w = simp and-false
 due-none Sampled w = simp and-false
 due-none Upto w = simp and-false
+due-none Deferred w = refl
 
 holds-none-when : (k : Kind) (w : Word) → holdsWhen k w false false false ≡ true
 holds-none-when Empty w = refl
@@ -45,31 +50,40 @@ holds-none-when (Relates StrictlyPrecedes) w = or-true (above w)
 holds-none-when (Relates Precedes) w = or-true (above w)
 holds-none-when (Defines k) w = rw (due-none k w)
 
-change-none : (k : Counter) (w : Word) → change k w false false ≡ Keep
-change-none Fixed w = refl
-change-none Gap w = refl
-change-none Lead w = refl
-change-none Countdown w = simp and-false
-change-none StrictSample w = simp and-false
-change-none Sample w = simp and-false
-change-none Until w = simp and-false
+moved-none : (k : Counter) (n : Parameter) (w : Word) → moved (change k n w false false) w ≡ w
+moved-none Fixed n w = refl
+moved-none Gap n w = refl
+moved-none Lead n w = refl
+moved-none Countdown n w = simp and-false
+moved-none StrictSample n w = simp and-false
+moved-none Sample n w = simp and-false
+moved-none Until n w = simp and-false
+moved-none Pending n w = refl
 
 pub holds-none : (r : Constraint) (w : Word) → holds r w none ≡ true
 holds-none r w = holds-none-when (r .kind) w
 
 pub next-none : (r : Constraint) (w : Word) → nextWord r w none ≡ w
-next-none r w = rw (change-none (counterOf (r .kind)) w)
+next-none r w = moved-none (counterOf (r .kind)) (r .parameter) w
 
 -- ---- start words are in range
+
+-- a number of at most top
+at-most : (top m : ℕ) → (leb 0 m && leb m top) ≡ true → m ≤ top
+at-most top m e = leb-true m top (and-r (leb 0 m) _ e)
+
+in-most : (top m : ℕ) → m ≤ top → (leb 0 m && leb m top) ≡ true
+in-most top m h = rw (le-leb 0 m (omega arith), le-leb m top h)
 
 start-fits : (k : Counter) (n : Parameter) → fits (counterRange k n) (word (counterRange k n .start)) ≡ true
 start-fits Fixed n = refl
 start-fits Gap n = refl
 start-fits Lead n = refl
-start-fits Countdown n = rw (le-leb 0 (n .0) (omega arith), le-leb (n .0) (n .0) (omega arith))
+start-fits Countdown n = in-most (awaited n) (awaited n) (omega arith)
 start-fits StrictSample n = refl
 start-fits Sample n = refl
 start-fits Until n = refl
+start-fits Pending n = in-most (4294967295 + length (numbers n) * 4294967296) 0 (omega arith)
 
 pub start-in-range : (r : Constraint) → inRange r (start r) ≡ true
 start-in-range r = start-fits (counterOf (r .kind)) (r .parameter)
@@ -85,16 +99,10 @@ Past Countdown w = ⊥
 Past StrictSample w = ⊥
 Past Sample w = ⊥
 Past Until w = ⊥
+Past Pending w = ⊥
 
 abbrev Lands : Counter → Parameter → Word → Type 0
 Lands k n w = (fits (counterRange k n) w ≡ true) ⊎ Past k w
-
--- a number of at most top, and one more of less than top
-at-most : (top m : ℕ) → (leb 0 m && leb m top) ≡ true → m ≤ top
-at-most top m e = leb-true m top (and-r (leb 0 m) _ e)
-
-in-most : (top m : ℕ) → m ≤ top → (leb 0 m && leb m top) ≡ true
-in-most top m h = rw (le-leb 0 m (omega arith), le-leb m top h)
 
 gap-next : (n : Parameter) (a b : Bool) (z : ℤ) → fits (counterRange Gap n) (word z) ≡ true → (a ≡ false → b ≡ true → positive z ≡ true) → Lands Gap n (moved (tally a b) (word z))
 gap-next n true true z e h = inl e
@@ -127,9 +135,9 @@ lead-next n false true (negsuc m) e = go (decLt m 999_999)
     go (yes p) = inl (rw (le-leb (suc m) 999_999 p))
     go (no p) = inr (inr (ap (λ (i : ℕ). word (negsuc i)) (omega (arith, leb-true m 999_999 (and-l _ _ e)))))
 
-countdown-next : (n : Parameter) (a b : Bool) (z : ℤ) → fits (counterRange Countdown n) (word z) ≡ true → Lands Countdown n (moved (change Countdown (word z) a b) (word z))
+countdown-next : (n : Parameter) (a b : Bool) (z : ℤ) → fits (counterRange Countdown n) (word z) ≡ true → Lands Countdown n (moved (change Countdown n (word z) a b) (word z))
 countdown-next n true b (pos zero) e = inl e
-countdown-next n true b (pos (suc m)) e = inl (in-most (n .0) m (omega (arith, at-most (n .0) (suc m) e)))
+countdown-next n true b (pos (suc m)) e = inl (in-most (awaited n) m (omega (arith, at-most (awaited n) (suc m) e)))
 countdown-next n true b (negsuc m) e = inl e
 countdown-next n false b z e = rw (and-false (positive z)) (inl e)
 
@@ -161,7 +169,28 @@ b-strictly true a b e p q = refl
 b-strictly false a true e p q = e
 b-strictly false a false e p q = q
 
-next-lands : (k : Kind) (n : Parameter) (w : Word) (a b c : Bool) → fits (counterRange (counterOf k) n) w ≡ true → holdsWhen k w a b c ≡ true → Lands (counterOf k) n (moved (change (counterOf k) w a b) w)
+-- a delay: the pending ticks stay 32 bits, and a number is used only where one is left
+module _ (n : Parameter) where
+  in-pending : (p u : ℕ) → p < 4294967296 → u ≤ length (numbers n) → fits (counterRange Pending n) (together p u) ≡ true
+  in-pending p u h g = in-most (4294967295 + length (numbers n) * 4294967296) (p + u * 4294967296) (omega arith)
+
+  plan-next : (m p u : ℕ) → p < 4294967296 → u ≤ length (numbers n) → (0 < m → u < length (numbers n)) → fits (counterRange Pending n) (planned m (together p u)) ≡ true
+  plan-next zero p u h g f = in-pending p u h g
+  plan-next (suc k) p u h g f = ap (fits (counterRange Pending n)) (planned-at k p u h) ∙ in-pending (withTick p k) (suc u) (plan-small p k h) (f (omega arith))
+
+  pending-next : (a b : Bool) (w : Word) → fits (counterRange Pending n) w ≡ true → fits (counterRange Pending n) (delayed n w a b) ≡ true
+  pending-next a b w e = go (delay-word n w e)
+    where
+      halved : (b : Bool) (p : ℕ) → p < 4294967296 → cond b (p / 2) p < 4294967296
+      halved true p h = omega arith
+      halved false p h = h
+
+      go : DelayWord n w → fits (counterRange Pending n) (delayed n w a b) ≡ true
+      go d =
+          ap (fits (counterRange Pending n)) (delayed-is n w (d .pending) (d .used) a b (d .whole) (d .small))
+          ∙ plan-next (cond a (getD (numbers n) (d .used) 0) 0) (cond b (d .pending / 2) (d .pending)) (d .used) (halved b (d .pending) (d .small)) (d .few) (number-left a (numbers n) (d .used))
+
+next-lands : (k : Kind) (n : Parameter) (w : Word) (a b c : Bool) → fits (counterRange (counterOf k) n) w ≡ true → holdsWhen k w a b c ≡ true → Lands (counterOf k) n (moved (change (counterOf k) n w a b) w)
 next-lands Empty n w a b c e h = inl e
 next-lands (Relates Coincides) n w a b c e h = inl e
 next-lands (Relates Excludes) n w a b c e h = inl e
@@ -176,6 +205,7 @@ next-lands (Defines Await) n w a b c e h = countdown-next n a b (w .0) e
 next-lands (Defines StrictlySampled) n w a b c e h = strict-next n (is 2 w && a) (is 1 w && b) (w .0) e
 next-lands (Defines Sampled) n w a b c e h = sample-next n (is 2 w && (a && b)) (is 2 w && a) (is 1 w && b) (w .0) e
 next-lands (Defines Upto) n w a b c e h = until-next n (is 1 w && b) (w .0) e
+next-lands (Defines Deferred) n w a b c e h = inl (pending-next n a b w e)
 
 pub next-in-range : (r : Constraint) (w : Word) (F : Ticks) → inRange r w ≡ true → holds r w F ≡ true → (inRange r (nextWord r w F) ≡ true) ⊎ Past (counterOf (r .kind)) (nextWord r w F)
 next-in-range r w F e h = next-lands (r .kind) (r .parameter) w _ _ _ e h

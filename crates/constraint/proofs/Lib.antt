@@ -1,4 +1,5 @@
 pub mod Booleans
+pub mod Delay
 pub mod Demand3
 pub mod Edges
 pub mod ImplicitLaws
@@ -9,6 +10,7 @@ pub mod MillionLaws
 pub mod Named
 pub mod OneMore
 pub mod OneRecord
+pub mod PairLaws
 pub mod PlaceRefusals
 pub mod Slots
 pub mod TickSets

@@ -15,7 +15,7 @@ use Rattle.constraint.specs.declared.Clocks.{Clocks}
 use Rattle.constraint.specs.declared.Constraint.{Constraint}
 use Rattle.constraint.specs.declared.Counter.the-variants.{Fixed, Gap, Lead}
 use Rattle.constraint.specs.declared.Definition.{Definition}
-use Rattle.constraint.specs.declared.Definition.the-variants.{Union, Inter, Lub, Glb, Await, StrictlySampled, Sampled, Upto}
+use Rattle.constraint.specs.declared.Definition.the-variants.{Union, Inter, Lub, Glb, Await, StrictlySampled, Sampled, Upto, Deferred}
 use Rattle.constraint.specs.declared.Fitted.{Fitted}
 use Rattle.constraint.specs.declared.Kind.the-variants.{Relates, Defines}
 use Rattle.constraint.specs.declared.Relation.{Relation}
@@ -72,6 +72,7 @@ lead-definition Await h = absurd (miss (2 ∷ 3 ∷ []) 4 tt h)
 lead-definition StrictlySampled h = absurd (miss (2 ∷ 3 ∷ []) 5 tt h)
 lead-definition Sampled h = absurd (miss (2 ∷ 3 ∷ []) 6 tt h)
 lead-definition Upto h = absurd (miss (2 ∷ 3 ∷ []) 7 tt h)
+lead-definition Deferred h = absurd (miss (2 ∷ 3 ∷ []) 8 tt h)
 
 pub fixed-definition : (k : Definition) → OneOf (0 ∷ 1 ∷ []) (tagOf definition.the-type k) → definitionCounter k ≡ Fixed
 fixed-definition Union h = refl
@@ -82,6 +83,7 @@ fixed-definition Await h = absurd (miss (0 ∷ 1 ∷ []) 4 tt h)
 fixed-definition StrictlySampled h = absurd (miss (0 ∷ 1 ∷ []) 5 tt h)
 fixed-definition Sampled h = absurd (miss (0 ∷ 1 ∷ []) 6 tt h)
 fixed-definition Upto h = absurd (miss (0 ∷ 1 ∷ []) 7 tt h)
+fixed-definition Deferred h = absurd (miss (0 ∷ 1 ∷ []) 8 tt h)
 
 -- ---- how a record fits
 

@@ -10,7 +10,7 @@ use Rattle.constraint.specs.Million.{withinMillion, inMillion}
 use Rattle.constraint.specs.Ticks.{Ticks}
 use Rattle.constraint.specs.declared.Constraint.{Constraint}
 use Rattle.constraint.specs.declared.Counter.{Counter}
-use Rattle.constraint.specs.declared.Counter.the-variants.{Fixed, Gap, Lead, Countdown, StrictSample, Sample, Until}
+use Rattle.constraint.specs.declared.Counter.the-variants.{Fixed, Gap, Lead, Countdown, StrictSample, Sample, Until, Pending}
 use Rattle.constraint.specs.declared.Parameter.{Parameter}
 use Rattle.constraint.specs.declared.Word.{Word}
 use Rattle.constraint.proofs.Booleans.{and-r}
@@ -38,6 +38,7 @@ in-million Countdown n w e = refl
 in-million StrictSample n w e = refl
 in-million Sample n w e = refl
 in-million Until n w e = refl
+in-million Pending n w e = refl
 
 past-million : (k : Counter) (n : Parameter) (w : Word) → Past k w → fits (counterRange k n) w ≡ withinMillion k w
 past-million Fixed n w p = absurd p
@@ -47,6 +48,7 @@ past-million Countdown n w p = absurd p
 past-million StrictSample n w p = absurd p
 past-million Sample n w p = absurd p
 past-million Until n w p = absurd p
+past-million Pending n w p = absurd p
 
 lands : (k : Counter) (n : Parameter) (w : Word) → (fits (counterRange k n) w ≡ true) ⊎ Past k w → fits (counterRange k n) w ≡ withinMillion k w
 lands k n w (inl e) = e ∙ sym (in-million k n w e)

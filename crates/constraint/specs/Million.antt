@@ -12,7 +12,7 @@ use Rattle.constraint.specs.declared.Broken.{Broken}
 use Rattle.constraint.specs.declared.Broken.the-variants.{Nowhere}
 use Rattle.constraint.specs.declared.Constraint.{Constraint}
 use Rattle.constraint.specs.declared.Counter.{Counter}
-use Rattle.constraint.specs.declared.Counter.the-variants.{Fixed, Gap, Lead, Countdown, StrictSample, Sample, Until}
+use Rattle.constraint.specs.declared.Counter.the-variants.{Fixed, Gap, Lead, Countdown, StrictSample, Sample, Until, Pending}
 use Rattle.constraint.specs.declared.Definition.the-variants.{Lub, Await}
 use Rattle.constraint.specs.declared.Kind.the-variants.{Relates, Defines}
 use Rattle.constraint.specs.declared.Relation.the-variants.{Precedes}
@@ -27,6 +27,7 @@ withinMillion Countdown w = true
 withinMillion StrictSample w = true
 withinMillion Sample w = true
 withinMillion Until w = true
+withinMillion Pending w = true
 
 -- of a record
 abbrev pub inMillion : Constraint → Word → Bool

@@ -2,6 +2,7 @@
 // configurations are. The same-place question, of which this crate has the definition and what its answer means.
 
 mod implicit;
+mod pair;
 mod place;
 mod rule;
 mod tick_set;
@@ -9,6 +10,9 @@ mod tick_set;
 pub use implicit::with_implied;
 use limit::Place;
 use limit::Refusal;
+pub use pair::first;
+pub use pair::paired;
+pub use pair::second;
 pub use place::broken_record;
 pub use place::broken_word;
 pub use place::counts_fit;
@@ -19,8 +23,8 @@ pub use place::fit_among;
 pub use place::same_word;
 pub use place::start_words;
 pub use place::with_defined;
-pub use rule::below;
 pub use rule::in_range;
+pub use rule::list_length;
 pub use rule::look;
 pub use rule::magnitude;
 pub use rule::start;
@@ -38,7 +42,7 @@ pub enum Relation {
 }
 
 // The right sides of `c clockDef`, in the order of document 01's table: `a clockUnion b`, `a clockInter b`, `a lub b`,
-// `a glb b`, `await n a`, `a strictly sampled b`, `a sampled b`, `a upto b`.
+// `a glb b`, `await n a`, `a strictly sampled b`, `a sampled b`, `a upto b`; and document 02's `a deferred b for n ..`.
 pub enum Definition {
     Union,
     Inter,
@@ -48,17 +52,19 @@ pub enum Definition {
     StrictlySampled,
     Sampled,
     Upto,
+    Deferred,
 }
 
-// The form of a constraint: one of the 13, or none, in a slot that has no constraint.
+// The form of a constraint: one of the 14, or none, in a slot that has no constraint.
 pub enum Kind {
     Empty,
     Relates(Relation),
     Defines(Definition),
 }
 
-// The number n of an await; any number in every other form, where it means nothing.
-pub struct Parameter(pub u32);
+// The number n of an await. The list of a delay: one number a byte, the first in the lowest, up to a byte that is 0 or to the eighth. Any
+// number in every other form, where it means nothing.
+pub struct Parameter(pub u64);
 
 // A constraint, with the numbers of its clocks: c, which it defines, a and b. A form looks only at those that it names.
 pub struct Constraint {
@@ -76,10 +82,12 @@ pub struct Clocks {
     pub count: u8,
 }
 
-// A constraint's part of a configuration: w of document 01's table.
+// A constraint's part of a configuration, which is two words: w of document 01's table and 0; of a delay the pending ticks, bit k - 1 for the
+// k-th next tick of b, and how many numbers of its list are used. Both stand in one number, the first and 2^32 times the second; a number
+// below 0 is the first alone.
 pub struct Word(pub i64);
 
-// A word for each constraint in table order; the rest are 0.
+// The two words of each constraint in table order; the rest are 0.
 pub struct Configuration {
     pub words: [Word; 64],
 }
@@ -93,6 +101,7 @@ pub enum Counter {
     StrictSample,
     Sample,
     Until,
+    Pending,
 }
 
 // A counter's start, and its range from low to high.
@@ -109,6 +118,7 @@ pub enum Change {
     Down,
     Zero,
     One,
+    Becomes(Word),
 }
 
 // What a step comes to for a record and its word: the word is out of range; the record fails; or it holds, and this is the word after the

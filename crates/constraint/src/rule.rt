@@ -10,18 +10,21 @@ use super::Relation;
 use super::Seen;
 use super::Word;
 use super::tick_set::ticks;
+use super::tick_set::with_tick;
 use limit::Place;
 ghost use mathlib.Core.Path.{_≡_};
 ghost use mathlib.Core.Bool.{true, cond, _&&_, _||_};
 ghost use mathlib.Core.List.{_∷_, []};
-ghost use Prim.Native.Nat.{_<_};
+ghost use Prim.Native.Nat.{_<_, _≤_, _/_};
 ghost use lib.Dec.{ltb};
-ghost use lib.IntN.{natAbs};
+ghost use lib.IntN.{natAbs, pos};
+ghost use lib.ListN.{length, getD};
 ghost use lib.Signed.{mag};
 ghost use Rattle.constraint.specs.Ticks.{bits};
 ghost use Rattle.constraint.specs.Lists.{allKnown};
 ghost use Rattle.constraint.specs.Look as l;
 ghost use Rattle.constraint.specs.Meaning as m;
+ghost use Rattle.constraint.specs.Pairs as p;
 
 // w > 0.
 fn above(w: Word) -> bool
@@ -31,20 +34,20 @@ fn above(w: Word) -> bool
 }
 
 // w < 0.
-pub fn below(w: Word) -> bool
+fn below(w: Word) -> bool
     ensures { λ r. ⌜ r ≡ m.below w ⌝ }
 {
     w.0 < 0
 }
 
-// How far w is from 0, for whoever prints a word.
-pub fn magnitude(w: Word) -> u64
-    ensures { λ r. ⌜ r ≡ natAbs (w .0) ⌝ }
+// How far a number is from 0.
+pub fn magnitude(z: i64) -> u64
+    ensures { λ r. ⌜ r ≡ natAbs z ⌝ }
 {
-    if w.0 < 0 {
-        (0 - (w.0 + 1)) as u64 + 1
+    if z < 0 {
+        (0 - (z + 1)) as u64 + 1
     } else {
-        w.0 as u64
+        z as u64
     }
 }
 
@@ -53,6 +56,13 @@ fn is(n: u8, w: Word) -> bool
     ensures { λ r. ⌜ r ≡ m.is n w ⌝ }
 {
     w.0 == n as i64
+}
+
+// Bit 0 of the pending ticks of a delay.
+fn is_pending(w: Word) -> bool
+    ensures { λ r. ⌜ r ≡ bits (m.pending w) 0 ⌝ }
+{
+    magnitude(w.0) % 2 == 1
 }
 
 // Whether a relation allows a step in which a and b tick or not.
@@ -81,6 +91,7 @@ pub fn due(k: Definition, w: Word, a: bool, b: bool) -> bool
         Definition::StrictlySampled => is(1, w) & b,
         Definition::Sampled => is(2, w) & (a & b) | is(1, w) & b,
         Definition::Upto => is(1, w) & (a & !b),
+        Definition::Deferred => b & is_pending(w),
     }
 }
 
@@ -108,6 +119,7 @@ fn definition_counter(k: Definition) -> Counter
         Definition::StrictlySampled => Counter::StrictSample,
         Definition::Sampled => Counter::Sample,
         Definition::Upto => Counter::Until,
+        Definition::Deferred => Counter::Pending,
     }
 }
 
@@ -122,7 +134,40 @@ fn counter_of(kind: Kind) -> Counter
     }
 }
 
-// A counter's start and range; n is the number of an await.
+// The number of an await; one above 2^32 - 1 counts as that, and neither fits.
+fn awaited(n: Parameter) -> i64
+    ensures { λ r. ⌜ r ≡ pos (m.awaited n) ⌝ }
+{
+    if n.0 <= 4294967295 {
+        return n.0 as i64;
+    }
+    4294967295
+}
+
+// How many numbers the list of a delay has.
+pub fn list_length(n: Parameter) -> u8
+    ensures { λ r. ⌜ r ≡ length (m.numbers n) ⌝ }
+{
+    let mut rest = n.0;
+    let mut i: u8 = 0;
+    while i < 8 {
+        if rest % 256 == 0 {
+            return i;
+        }
+        rest /= 256;
+        i += 1;
+    }
+    8
+}
+
+// The most that both words of a delay come to: 2^32 - 1 pending, and all numbers of the list used.
+fn all_used(n: Parameter) -> i64
+    ensures { λ r. ⌜ r ≡ p.together 4294967295 (length (m.numbers n)) .0 ⌝ }
+{
+    (4294967295 + list_length(n) as u64 * 4294967296) as i64
+}
+
+// A counter's start and range; n is the number of an await, or the list of a delay.
 fn counter_range(counter: Counter, n: Parameter) -> Range
     ensures { λ r. ⌜ r ≡ m.counterRange counter n ⌝ }
 {
@@ -130,10 +175,11 @@ fn counter_range(counter: Counter, n: Parameter) -> Range
         Counter::Fixed => row(0, 0, 0),
         Counter::Gap => row(0, 0, 1000000),
         Counter::Lead => row(0, -1000000, 1000000),
-        Counter::Countdown => row(n.0 as i64, 0, n.0 as i64),
+        Counter::Countdown => row(awaited(n), 0, awaited(n)),
         Counter::StrictSample => row(2, 0, 2),
         Counter::Sample => row(2, 0, 2),
         Counter::Until => row(1, 0, 1),
+        Counter::Pending => row(0, 0, all_used(n)),
     }
 }
 
@@ -162,9 +208,9 @@ fn tally(a: bool, b: bool) -> Change
     }
 }
 
-// What a step in which a and b tick or not does to a word.
+// What a step in which a and b tick or not does to a word; that of a delay is `delayed`.
 fn change(counter: Counter, w: Word, a: bool, b: bool) -> Change
-    ensures { λ r. ⌜ r ≡ m.change counter w a b ⌝ }
+    ensures { λ r. ⌜ r ≡ l.counting counter w a b ⌝ }
 {
     match counter {
         Counter::Fixed => Change::Keep,
@@ -181,12 +227,57 @@ fn change(counter: Counter, w: Word, a: bool, b: bool) -> Change
             pick(is(2, w) & (a & b), Change::Zero, alone)
         }
         Counter::Until => pick(is(1, w) & b, Change::Zero, Change::Keep),
+        Counter::Pending => Change::Keep,
     }
+}
+
+// The number of a delay's list behind i others; 0 where those are all.
+fn number_behind(n: Parameter, i: u8) -> u8
+    requires { ⌜ i ≤ length (m.numbers n) ⌝ }
+    ensures { λ r. ⌜ r ≡ getD (m.numbers n) i 0 ⌝ }
+{
+    if 8 <= i {
+        return 0;
+    }
+    ((n.0 >> (8 * i)) % 256) as u8
+}
+
+// Half of a number, where that is asked for.
+fn halved(asked: bool, n: u32) -> u32
+    ensures { λ r. ⌜ r ≡ cond asked (n / 2) n ⌝ }
+{
+    if asked { n / 2 } else { n }
+}
+
+// A delay's word after a step in which a and b tick or not: shifted on b; then, on a, the next number is planned.
+fn delayed(n: Parameter, w: Word, a: bool, b: bool) -> Word
+    requires { ⌜ m.fits (m.counterRange Counter.Pending n) w ≡ true ⌝ }
+    ensures { λ r. ⌜ r ≡ m.delayed n w a b ⌝ }
+{
+    let both = magnitude(w.0);
+    let pending = (both % 4294967296) as u32;
+    let used = (both / 4294967296) as u8;
+    let left = halved(b, pending);
+    if !a {
+        return together(left, used);
+    }
+    let number = number_behind(n, used);
+    if number == 0 {
+        return together(left, used);
+    }
+    together(with_tick(left, number - 1), used + 1)
+}
+
+// The words of a delay.
+fn together(pending: u32, used: u8) -> Word
+    ensures { λ r. ⌜ r ≡ p.together pending used ⌝ }
+{
+    Word((pending as u64 + used as u64 * 4294967296) as i64)
 }
 
 // A word after a change.
 fn moved(change: Change, w: Word) -> Word
-    requires { ⌜ mag (w .0) < 4294967296 ⌝ }
+    requires { ⌜ mag (w .0) < 1099511627776 ⌝ }
     ensures { λ r. ⌜ r ≡ m.moved change w ⌝ }
 {
     match change {
@@ -195,6 +286,7 @@ fn moved(change: Change, w: Word) -> Word
         Change::Down => Word(w.0 - 1),
         Change::Zero => Word(0),
         Change::One => Word(1),
+        Change::Becomes(v) => v,
     }
 }
 
@@ -290,6 +382,19 @@ fn look_relation(k: Relation, n: Parameter, w: Word, a: bool, b: bool) -> Seen
     }
 }
 
+// A step of a delay, by whether it holds, in which a and b tick or not.
+fn look_delay(n: Parameter, holds: bool, w: Word, a: bool, b: bool) -> Seen
+    ensures { λ r. ⌜ r ≡ l.weighed Counter.Pending n holds a b w ⌝ }
+{
+    if !inside(counter_range(Counter::Pending, n), w) {
+        return Seen::Out;
+    }
+    if !holds {
+        return Seen::Fails;
+    }
+    Seen::Moves(delayed(n, w, a, b))
+}
+
 // A step of a definition, in which a, b and c tick or not.
 fn look_definition(k: Definition, n: Parameter, w: Word, a: bool, b: bool, c: bool) -> Seen
     ensures { λ r. ⌜ r ≡ l.weighed (m.definitionCounter k) n (m._exactlyWhen_ c (m.due k w a b)) a b w ⌝ }
@@ -326,6 +431,7 @@ fn look_definition(k: Definition, n: Parameter, w: Word, a: bool, b: bool, c: bo
             change(Counter::Until, w, a, b),
             w,
         ),
+        Definition::Deferred => look_delay(n, holds, w, a, b),
         _ => bounded(
             counter_range(Counter::Fixed, n),
             holds,
@@ -376,12 +482,33 @@ fn number_fits(n: Parameter) -> bool
     (1 <= n.0) & (n.0 <= 1000000)
 }
 
-// The clocks of a definition, c, which it defines, and its operands, and its number.
+// The list of a delay has one to eight numbers, each 1 to 32.
+fn list_fits(n: Parameter) -> bool
+    ensures { λ r. ⌜ r ≡ m.parameterFits Counter.Pending n ⌝ }
+{
+    let mut rest = n.0;
+    let mut i: u8 = 0;
+    while i < 8 {
+        let number = rest % 256;
+        if number == 0 {
+            return 1 <= i;
+        }
+        if 32 < number {
+            return false;
+        }
+        rest /= 256;
+        i += 1;
+    }
+    true
+}
+
+// The clocks of a definition, c, which it defines, and its operands, and its number or list.
 pub fn definition_fits(k: Definition, clocks: u8, a: u8, b: u8, c: u8, n: Parameter) -> bool
     ensures { λ r. ⌜ r ≡ (m.clocksFit clocks (c ∷ m.operands k a b) && m.parameterFits (m.definitionCounter k) n) ⌝ }
 {
     match k {
         Definition::Await => pair_fits(clocks, c, a) & number_fits(n),
+        Definition::Deferred => triple_fits(clocks, c, a, b) & list_fits(n),
         _ => triple_fits(clocks, c, a, b),
     }
 }

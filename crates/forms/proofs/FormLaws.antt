@@ -9,7 +9,7 @@ use native.Mathlib.Omega.{arith}
 use borrow.Author.Tests.{lt-leb, ltb-false}
 use lib.Dec.{leb, ltb}
 use Rattle.constraint.specs.declared.Definition.{Definition}
-use Rattle.constraint.specs.declared.Definition.the-variants.{Union, Inter, Lub, Glb, Await as AwaitKind, StrictlySampled, Sampled, Upto}
+use Rattle.constraint.specs.declared.Definition.the-variants.{Union, Inter, Lub, Glb, Await as AwaitKind, StrictlySampled, Sampled, Upto, Deferred}
 use Rattle.constraint.specs.declared.Kind.{Kind}
 use Rattle.constraint.specs.declared.Kind.the-variants.{Empty, Relates, Defines}
 use Rattle.constraint.specs.declared.Relation.{Relation}
@@ -66,6 +66,7 @@ module _ {O : Type 0} (IsOp : Words → O → Type 0) {a c : Words} {x y : O} (p
   right-row StrictlySampled n = strictly-sampled p q
   right-row Sampled n = sampled p q
   right-row Upto n = upto p q
+  right-row Deferred n = absurd (false≢true n)
 
 -- ---- what forms come to: placed operand by operand
 abbrev pub ofClock : {S : Type 0} → ℕ → Formed S → Formed S

@@ -5,7 +5,7 @@ use mathlib.Core.Bool.{cond, true, true≢false, false≢true}
 use mathlib.Core.List.{[], _∷_, _++_, append-assoc, append-nil}
 use Prim.Native.Nat.{ℕ, zero, suc}
 use native.Mathlib.Omega.{arith}
-use Rattle.constraint.specs.declared.Definition.the-variants.{Union, Inter, Lub, Glb, Await as AwaitKind, StrictlySampled, Sampled, Upto}
+use Rattle.constraint.specs.declared.Definition.the-variants.{Union, Inter, Lub, Glb, Await as AwaitKind, StrictlySampled, Sampled, Upto, Deferred}
 use Rattle.constraint.specs.declared.Kind.{Kind}
 use Rattle.constraint.specs.declared.Kind.the-variants.{Empty, Relates, Defines}
 use Rattle.constraint.specs.declared.Relation.{Relation}
@@ -45,6 +45,7 @@ kind-of (Defines AwaitKind) u us i n = absurd (false≢true n)
 kind-of (Defines StrictlySampled) u us i n = refl
 kind-of (Defines Sampled) u us i n = refl
 kind-of (Defines Upto) u us i n = refl
+kind-of (Defines Deferred) u us i n = absurd (false≢true n)
 
 cancel : (ks us vs : Words) → ks ++ us ≡ ks ++ vs → us ≡ vs
 cancel [] us vs e = e

@@ -5,7 +5,7 @@ use mathlib.Core.Bool.{Bool, true, false, _||_, false≢true}
 use mathlib.Core.List.{[], _∷_, _++_, append-assoc, append-nil}
 use Prim.Native.Nat.{ℕ, zero, suc, _+_}
 use native.Mathlib.Omega.{arith}
-use Rattle.constraint.specs.declared.Definition.the-variants.{Union, Inter, Lub, Glb, Await as AwaitKind, StrictlySampled, Sampled, Upto}
+use Rattle.constraint.specs.declared.Definition.the-variants.{Union, Inter, Lub, Glb, Await as AwaitKind, StrictlySampled, Sampled, Upto, Deferred}
 use Rattle.constraint.specs.declared.Kind.{Kind}
 use Rattle.constraint.specs.declared.Kind.the-variants.{Empty, Relates, Defines}
 use Rattle.constraint.specs.declared.Relation.the-variants.{Coincides, Excludes, SubClock, StrictlyPrecedes, Precedes}
@@ -73,6 +73,7 @@ module _ {A : Type 0} (M : Words → A) (passes : (w : Word) (us : Words) → on
   kind-passes (Defines StrictlySampled) us i n = passes (ascii "strictly") (ascii "sampled" ∷ us) refl ∙ passes (ascii "sampled") us refl
   kind-passes (Defines Sampled) us i n = passes (ascii "sampled") us refl
   kind-passes (Defines Upto) us i n = passes (ascii "upto") us refl
+  kind-passes (Defines Deferred) us i n = absurd (false≢true n)
 
   pub def-passes : (us : Words) → M (ascii "clockDef" ∷ us) ≡ M us
   unfolding oneOf sameBytes

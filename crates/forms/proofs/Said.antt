@@ -5,7 +5,7 @@ use mathlib.Core.Bool.{Bool, true, false, cond, true≢false, false≢true}
 use mathlib.Core.List.{List, [], _∷_, _++_, map}
 use Prim.Native.Nat.{ℕ}
 use native.Mathlib.Omega.{arith}
-use Rattle.constraint.specs.declared.Definition.the-variants.{Union, Inter, Lub, Glb, Await as AwaitKind, StrictlySampled, Sampled, Upto}
+use Rattle.constraint.specs.declared.Definition.the-variants.{Union, Inter, Lub, Glb, Await as AwaitKind, StrictlySampled, Sampled, Upto, Deferred}
 use Rattle.constraint.specs.declared.Kind.{Kind}
 use Rattle.constraint.specs.declared.Kind.the-variants.{Empty, Relates, Defines}
 use Rattle.constraint.specs.declared.Relation.{Relation}
@@ -102,6 +102,7 @@ module _ (t : List ℕ) where
   kind-is us (Defines StrictlySampled) bs i n e = two-words us (Defines StrictlySampled) (ascii "sampled") bs refl e
   kind-is us (Defines Sampled) bs i n e = one-word us (Defines Sampled) (ascii "sampled") bs refl refl e
   kind-is us (Defines Upto) bs i n e = one-word us (Defines Upto) (ascii "upto") bs refl refl e
+  kind-is us (Defines Deferred) bs i n e = absurd (false≢true n)
 
   -- what a relation's kind says is not clockDef
   pub no-clock-def : (k : Relation) (us : List Span) (bs : Words) → said t us ≡ kindWords (Relates k) ++ bs → is ClockDef (token t us) ≡ false

@@ -7,7 +7,7 @@ use Prim.Native.Nat.{ℕ, _≤_}
 use native.Mathlib.Omega.{arith}
 use borrow.Author.Tests.{leb-true, lt-leb, not-true}
 use lib.Dec.{leb}
-use Rattle.constraint.specs.declared.Definition.the-variants.{Union, Inter, Lub, Glb, Await as AwaitKind, StrictlySampled, Sampled, Upto}
+use Rattle.constraint.specs.declared.Definition.the-variants.{Union, Inter, Lub, Glb, Await as AwaitKind, StrictlySampled, Sampled, Upto, Deferred}
 use Rattle.constraint.specs.declared.Kind.{Kind}
 use Rattle.constraint.specs.declared.Kind.the-variants.{Empty, Relates, Defines}
 use Rattle.constraint.specs.declared.Relation.the-variants.{Coincides, Excludes, SubClock, StrictlyPrecedes, Precedes}
@@ -43,6 +43,7 @@ kindWords (Defines AwaitKind) = []
 kindWords (Defines StrictlySampled) = ascii "strictly" ∷ ascii "sampled" ∷ []
 kindWords (Defines Sampled) = ascii "sampled" ∷ []
 kindWords (Defines Upto) = ascii "upto" ∷ []
+kindWords (Defines Deferred) = []
 
 abbrev sameWords : Words → Words → Bool
 sameWords [] [] = true

@@ -3,7 +3,7 @@ use mathlib.Core.Path.{_≡_, refl}
 use mathlib.Core.Bool.{Bool, true, false, cond}
 use mathlib.Core.List.{List}
 use Prim.Native.Nat.{ℕ}
-use Rattle.constraint.specs.declared.Definition.the-variants.{Union, Inter, Lub, Glb, Await as AwaitKind, StrictlySampled, Sampled, Upto}
+use Rattle.constraint.specs.declared.Definition.the-variants.{Union, Inter, Lub, Glb, Await as AwaitKind, StrictlySampled, Sampled, Upto, Deferred}
 use Rattle.constraint.specs.declared.Kind.{Kind}
 use Rattle.constraint.specs.declared.Kind.the-variants.{Empty, Relates, Defines}
 use Rattle.constraint.specs.declared.Relation.the-variants.{Coincides, Excludes, SubClock, StrictlyPrecedes, Precedes}
@@ -40,6 +40,7 @@ strict-plain (Defines AwaitKind) = refl
 strict-plain (Defines StrictlySampled) = refl
 strict-plain (Defines Sampled) = refl
 strict-plain (Defines Upto) = refl
+strict-plain (Defines Deferred) = refl
 
 pub kind-plain : (t : List ℕ) (us : List Span) → notAwait (kindAt t us .kind) ≡ true
 unfolding kindAt

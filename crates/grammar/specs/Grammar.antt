@@ -7,7 +7,7 @@ use Prim.Native.Nat.{ℕ, zero, suc}
 use lib.Dec.{leb}
 use Rattle.constraint.specs.declared.Constraint.{Constraint}
 use Rattle.constraint.specs.declared.Definition.{Definition}
-use Rattle.constraint.specs.declared.Definition.the-variants.{Union, Inter, Lub, Glb, Await as AwaitKind, StrictlySampled, Sampled, Upto}
+use Rattle.constraint.specs.declared.Definition.the-variants.{Union, Inter, Lub, Glb, Await as AwaitKind, StrictlySampled, Sampled, Upto, Deferred}
 use Rattle.constraint.specs.declared.Kind.{Kind}
 use Rattle.constraint.specs.declared.Kind.the-variants.{Empty, Relates, Defines}
 use Rattle.constraint.specs.declared.Parameter.{Parameter}
@@ -95,6 +95,7 @@ strictDefinition AwaitKind = Empty
 strictDefinition StrictlySampled = Empty
 strictDefinition Sampled = Defines StrictlySampled
 strictDefinition Upto = Empty
+strictDefinition Deferred = Empty
 
 abbrev pub strictKind : Kind → Kind
 strictKind Empty = Empty

@@ -87,6 +87,7 @@ fn strict_definition(k: Definition) -> Kind
         Definition::StrictlySampled => Kind::Empty,
         Definition::Sampled => Kind::Defines(Definition::StrictlySampled),
         Definition::Upto => Kind::Empty,
+        Definition::Deferred => Kind::Empty,
     }
 }
 
@@ -187,7 +188,7 @@ fn no_form(inner: Inner) -> FormRead
 }
 
 // The number of an await, 0 where it is not 1 to 1,000,000.
-pub fn await_number(digits: &[u8]) -> u32
+pub fn await_number(digits: &[u8]) -> u64
     ensures { λ r. ⌜ r ≡ g.awaitNumber (now (digits .entry)) ⌝ }
 {
     match text::decimal(digits) {
@@ -195,7 +196,7 @@ pub fn await_number(digits: &[u8]) -> u32
         Number::TooLarge => 0,
         Number::Value(n) => {
             if n <= 1000000 {
-                return n as u32;
+                return n;
             }
             0
         }

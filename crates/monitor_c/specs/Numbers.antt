@@ -11,7 +11,7 @@ use Rattle.constraint.specs.SamePlace as place
 use Rattle.constraint.specs.declared.Clocks.{Clocks}
 use Rattle.constraint.specs.declared.Configuration.{Configuration}
 use Rattle.constraint.specs.declared.Constraint.{Constraint}
-use Rattle.constraint.specs.declared.Definition.the-variants.{Union, Inter, Lub, Glb, Await, StrictlySampled, Sampled, Upto}
+use Rattle.constraint.specs.declared.Definition.the-variants.{Union, Inter, Lub, Glb, Await, StrictlySampled, Sampled, Upto, Deferred}
 use Rattle.constraint.specs.declared.Kind.{Kind}
 use Rattle.constraint.specs.declared.Kind.the-variants.{Empty, Relates, Defines}
 use Rattle.constraint.specs.declared.Relation.the-variants.{Coincides, Excludes, SubClock, StrictlyPrecedes, Precedes}
@@ -67,6 +67,7 @@ kindNumber (Defines Await) = 10
 kindNumber (Defines StrictlySampled) = 11
 kindNumber (Defines Sampled) = 12
 kindNumber (Defines Upto) = 13
+kindNumber (Defines Deferred) = 14
 
 -- ---- records: kind, c, a, b, n, line
 
@@ -192,8 +193,9 @@ answerAnd t ns = t .said ∷ t .first ∷ t .second ∷ ns
 
 -- ---- a theorem: records that were written are read back as the same records
 
--- a record whose numbers fit their fields
+-- a record of a kind that is known, whose numbers fit their fields
 pub record Fitting (r : Constraint) : Type 0 where
+  pub kind : kindNumber (r .kind) ≤ 13
   pub defined : r .defined ≤ 255
   pub first : r .first ≤ 255
   pub second : r .second ≤ 255

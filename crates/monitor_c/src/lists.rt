@@ -49,7 +49,7 @@ fn put_record(numbers: &mut [u64], at: usize, constraint: Constraint)
     numbers[at + 1] = constraint.defined as u64;
     numbers[at + 2] = constraint.first as u64;
     numbers[at + 3] = constraint.second as u64;
-    numbers[at + 4] = parameter.0 as u64;
+    numbers[at + 4] = parameter.0;
     numbers[at + 5] = line.0 as u64;
 }
 

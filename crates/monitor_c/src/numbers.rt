@@ -65,6 +65,7 @@ fn definition_number(definition: Definition) -> u64
         Definition::StrictlySampled => 11,
         Definition::Sampled => 12,
         Definition::Upto => 13,
+        Definition::Deferred => 14,
     }
 }
 

@@ -53,7 +53,7 @@ fn record_at(numbers: &[u64], at: usize) -> Constraint
         defined: clock_of(numbers[at + 1]),
         first: clock_of(numbers[at + 2]),
         second: clock_of(numbers[at + 3]),
-        parameter: Parameter(at_most(4_294_967_295, numbers[at + 4]) as u32),
+        parameter: Parameter(at_most(4_294_967_295, numbers[at + 4])),
         line: Place(numbers[at + 5] as usize),
     }
 }

@@ -61,8 +61,9 @@ pub fn put_word(out: &mut [u8], at: usize, w: Word) -> usize
     requires { ⌜ at + 21 ≤ length (now out) ⌝ }
     ensures { λ r. ⌜ Short 21 (now (out .entry)) at (32 ∷ wordText w) (now (out .exit)) r ⌝ }
 {
-    let n = constraint::magnitude(w);
-    if constraint::below(w) {
+    let z = w.0;
+    let n = constraint::magnitude(z);
+    if z < 0 {
         let to = put_text(out, at, b" -");
         return put_number(out, to, n);
     }

@@ -1,10 +1,11 @@
-// What the calls answer. Behind a step stand the words that are not 0, as place and word.
+// What the calls answer. Behind a step stand the words of which a part is not 0, as place and word.
 use super::read::clock_of;
 use super::read::clocks;
 use super::read::configuration;
 use super::read::count;
 use super::read::every;
 use super::read::first_slots;
+use super::read::list;
 use super::read::number;
 use super::read::number_of;
 use super::read::set;
@@ -40,13 +41,13 @@ fn say_place(label: &[u8], place: Place) {
     say_number(place.0 as u64);
 }
 
-// A word that is not 0, behind its place.
+// A word of which a part is not 0, behind its place.
 fn one_word(configuration: Configuration, i: usize) {
     if 64 <= i {
         return;
     }
     let w = configuration.words[i];
-    if constraint::magnitude(w) == 0 {
+    if constraint::magnitude(w.0) == 0 {
         return;
     }
     say_place(b" ", Place(i + 1));
@@ -54,7 +55,7 @@ fn one_word(configuration: Configuration, i: usize) {
     say_word(w);
 }
 
-// The words that are not 0.
+// The words of which a part is not 0.
 fn say_words(configuration: Configuration) {
     let mut i: usize = 0;
     while i < 64 {
@@ -90,7 +91,7 @@ pub fn step(line: &[u8]) {
         slots(line),
         count(line),
         clocks(line),
-        configuration(line, b"words"),
+        configuration(line, b"words", b"used"),
         set(line, b"step"),
     );
     let answer = stepped.answer;
@@ -100,7 +101,7 @@ pub fn step(line: &[u8]) {
 
 // The lent monitor, moved forward from where the words say that it stands.
 pub fn advance(line: &[u8]) {
-    let configuration = configuration(line, b"words");
+    let configuration = configuration(line, b"words", b"used");
     let moved = lent::advance_on(
         Monitor { configuration },
         slots(line),
@@ -119,8 +120,8 @@ pub fn same_place(line: &[u8]) {
         slots(line),
         count(line),
         clocks(line),
-        configuration(line, b"words"),
-        configuration(line, b"second"),
+        configuration(line, b"words", b"used"),
+        configuration(line, b"second", b"second_used"),
     );
     say(b" ");
     match answer {
@@ -145,7 +146,7 @@ fn cell(record: Constraint, w: Word, f: u32) {
 // The record from the first word, on {}, {a}, {b}, {a, b}, {c}, {a, c}, {b, c}, {a, b, c}.
 pub fn rule(line: &[u8]) {
     let record = every(line);
-    let configuration = configuration(line, b"words");
+    let configuration = configuration(line, b"words", b"used");
     let w = configuration.words[0];
     cell(record, w, 0);
     cell(record, w, 1);
@@ -169,7 +170,7 @@ fn inside(record: Constraint, all: Configuration, i: usize) {
 // The start word of the record, and whether each of four words is in its range.
 pub fn range(line: &[u8]) {
     let record = every(line);
-    let all = configuration(line, b"range");
+    let all = configuration(line, b"range", b"used");
     say(b" starts at ");
     say_word(constraint::start(record));
     say(b",");
@@ -205,18 +206,18 @@ pub fn broken_word(line: &[u8]) {
     say_broken(constraint::broken_word(
         first_slots(line),
         count(line),
-        configuration(line, b"words"),
+        configuration(line, b"words", b"used"),
     ));
 }
 
 // Whether a clock of a list is in a tick set.
-fn member(set: u32, all: Configuration, i: usize) {
+fn member(set: u32, all: [i64; 64], i: usize) {
     say_answer(constraint::ticks(set, clock_of(number_of(all, i))));
 }
 
 // A tick set with a clock put in, and whether each of four clocks is in it then.
 pub fn with_tick(line: &[u8]) {
-    let all = configuration(line, b"with_tick");
+    let all = list(line, b"with_tick");
     let set = constraint::with_tick(set_of(number_of(all, 0)), clock_of(number_of(all, 1)));
     say(b" ");
     say_number(set as u64);

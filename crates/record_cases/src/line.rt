@@ -13,7 +13,7 @@ fn known_word(word: &[u8]) -> bool {
         return true;
     };
     let found = find(
-        b"step advance same_place rule range fits broken_record broken_word with_tick start clocks named count words second every 1st 2nd 3rd 64th 66th empty = # isSubClockOf strictly_precedes precedes clockUnion clockInter lub glb await strictly_sampled sampled upto",
+        b"step advance same_place rule range fits broken_record broken_word with_tick start clocks named count words used second second_used every 1st 2nd 3rd 64th 66th empty = # isSubClockOf strictly_precedes precedes clockUnion clockInter lub glb await strictly_sampled sampled upto deferred",
         word,
     );
     found.place != 0

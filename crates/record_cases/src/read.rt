@@ -19,7 +19,7 @@ pub struct Found {
 
 // What a word says: a number, that the next number is the last of 64, or something else.
 pub enum Item {
-    Number(Word),
+    Number(i64),
     Dots,
     Other,
 }
@@ -52,20 +52,20 @@ fn signed(number: Number, minus: bool) -> Item {
     }
     let w = n as i64;
     if minus {
-        return Item::Number(Word(0 - w));
+        return Item::Number(0 - w);
     }
-    Item::Number(Word(w))
+    Item::Number(w)
 }
 
 // What a word of one byte says: a small letter is the number of a clock, from 0 for a, and a minus sign one that no clock and no await has.
 fn short(word: &[u8], byte: u8) -> Item {
     if byte == 45 {
-        return Item::Number(Word(4000000000));
+        return Item::Number(4000000000);
     }
     if byte < 97 {
         return signed(text::decimal(word), false);
     }
-    Item::Number(Word((byte - 97) as i64))
+    Item::Number((byte - 97) as i64)
 }
 
 // What a word says.
@@ -87,10 +87,8 @@ pub fn item_of(word: &[u8]) -> Item {
 }
 
 // The numbers from an offset up to a word that says something else; each of the 64 that is left out is another number.
-fn numbers(line: &[u8], from: usize, other: i64) -> Configuration {
-    let mut all = Configuration {
-        words: [Word(other); 64],
-    };
+fn numbers(line: &[u8], from: usize, other: i64) -> [i64; 64] {
+    let mut all = [other; 64];
     let mut next: usize = 0;
     let mut at = from;
     while at < line.len() {
@@ -100,7 +98,7 @@ fn numbers(line: &[u8], from: usize, other: i64) -> Configuration {
         match item {
             Item::Number(w) => {
                 if next < 64 {
-                    all.words[next] = w;
+                    all[next] = w;
                     next += 1;
                 }
             }
@@ -115,19 +113,36 @@ fn numbers(line: &[u8], from: usize, other: i64) -> Configuration {
     all
 }
 
-// The configuration behind a word; zero words where the line lacks it.
-pub fn configuration(line: &[u8], key: &[u8]) -> Configuration {
+// The numbers behind a word; each that is left out, and all where the line lacks the word, is 0.
+pub fn list(line: &[u8], key: &[u8]) -> [i64; 64] {
     let found = find(line, key);
     numbers(line, found.end, 0)
 }
 
+// The configuration that has these first and second words. Two that no part of a configuration has are out of every range.
+fn pairs(firsts: [i64; 64], seconds: [i64; 64]) -> Configuration {
+    let mut all = Configuration {
+        words: [Word(0); 64],
+    };
+    let mut i: usize = 0;
+    while i < 64 {
+        all.words[i] = constraint::paired(firsts[i], seconds[i]);
+        i += 1;
+    }
+    all
+}
+
+// The configuration whose first words stand behind a word, and its second words behind another.
+pub fn configuration(line: &[u8], first: &[u8], second: &[u8]) -> Configuration {
+    pairs(list(line, first), list(line, second))
+}
+
 // A number of a list, without its sign.
-pub fn number_of(all: Configuration, i: usize) -> u64 {
+pub fn number_of(all: [i64; 64], i: usize) -> u64 {
     if 64 <= i {
         return 0;
     }
-    let w = all.words[i];
-    constraint::magnitude(w)
+    constraint::magnitude(all[i])
 }
 
 // The number behind a word; another one where the line lacks it.
@@ -136,7 +151,7 @@ pub fn number(line: &[u8], key: &[u8], other: i64) -> u64 {
     number_of(numbers(line, found.end, other), 0)
 }
 
-// A number as that of a clock: 200 for one above 255.
+// A number as that of a clock, as a list's length or as one of its numbers: 200 for one above 255.
 pub fn clock_of(n: u64) -> u8 {
     if 255 < n {
         return 200;
@@ -188,14 +203,15 @@ fn definition(n: usize) -> Definition {
         11 => Definition::Await,
         12 => Definition::StrictlySampled,
         13 => Definition::Sampled,
-        _ => Definition::Upto,
+        14 => Definition::Upto,
+        _ => Definition::Deferred,
     }
 }
 
 // The kind that a word says.
 fn kind(word: &[u8]) -> Kind {
     let found = find(
-        b"empty = # isSubClockOf strictly_precedes precedes clockUnion clockInter lub glb await strictly_sampled sampled upto",
+        b"empty = # isSubClockOf strictly_precedes precedes clockUnion clockInter lub glb await strictly_sampled sampled upto deferred",
         word,
     );
     let n = found.place;
@@ -208,7 +224,34 @@ fn kind(word: &[u8]) -> Kind {
     Kind::Defines(definition(n))
 }
 
-// The record from an offset on: a form, and the numbers of a, b, c and n.
+// The list of a delay behind its length, one number a byte, the first in the lowest: the empty list, 0, where a number of it is 0, and where
+// there are more than 8.
+fn delays(all: [i64; 64]) -> u64 {
+    let mut left = clock_of(number_of(all, 3)) as usize;
+    let mut bytes: u64 = 0;
+    while 0 < left {
+        let number = clock_of(number_of(all, 3 + left));
+        if number == 0 {
+            return 0;
+        }
+        if 72057594037927935 < bytes {
+            return 0;
+        }
+        bytes = bytes * 256 + number as u64;
+        left -= 1;
+    }
+    bytes
+}
+
+// The number n, or the list of a delay.
+fn parameter(form: &[u8], all: [i64; 64]) -> u64 {
+    if text::same_bytes(form, b"deferred") {
+        return delays(all);
+    }
+    set_of(number_of(all, 3)) as u64
+}
+
+// The record from an offset on: a form, and the numbers of a, b, c and n, or of a delay's list instead of n.
 fn record(line: &[u8], at: usize) -> Constraint {
     let word = text::next_word(Class::Space, line, at);
     let all = numbers(line, word.end, 4000000000);
@@ -217,7 +260,7 @@ fn record(line: &[u8], at: usize) -> Constraint {
         defined: clock_of(number_of(all, 2)),
         first: clock_of(number_of(all, 0)),
         second: clock_of(number_of(all, 1)),
-        parameter: Parameter(set_of(number_of(all, 3))),
+        parameter: Parameter(parameter(text::part(line, word), all)),
         line: Place(7),
     }
 }

@@ -26,7 +26,19 @@ fn say_definition(definition: Definition) {
         Definition::StrictlySampled => say(b"strictly sampled"),
         Definition::Sampled => say(b"sampled"),
         Definition::Upto => say(b"upto"),
+        Definition::Deferred => say(b"deferred"),
     }
+}
+
+// Whether a form is that of a delay.
+pub fn is_delay(kind: Kind) -> bool {
+    let Kind::Defines(definition) = kind else {
+        return false;
+    };
+    let Definition::Deferred = definition else {
+        return false;
+    };
+    true
 }
 
 // The words of a form, or `empty`.

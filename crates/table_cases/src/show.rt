@@ -1,10 +1,13 @@
 // What the reader of a table answers, as lines: the refusal, or the names of the clocks and the constraints.
+use super::form::is_delay;
 use super::form::say_kind;
 use console::say;
 use console::say_field;
 use console::say_refusal;
 use console::say_word;
 use constraint::Constraint;
+use constraint::Kind;
+use constraint::Parameter;
 use grammar::Names;
 use grammar::Table;
 use limit::Check;
@@ -49,13 +52,32 @@ fn clocks(text: &[u8], all: Names) {
     say(b"\n");
 }
 
+// The numbers of a list, one a byte, each behind a space.
+fn list(all: u64) {
+    let mut rest = all;
+    while rest % 256 != 0 {
+        say_field(b" ", rest % 256);
+        rest /= 256;
+    }
+}
+
+// The number of an await, or the list of a delay.
+fn number(kind: Kind, parameter: Parameter) {
+    if is_delay(kind) {
+        say(b" n 0 for");
+        list(parameter.0);
+        return;
+    }
+    say_field(b" n ", parameter.0);
+}
+
 // The clocks, the number and the start word of a constraint.
 fn fields(record: Constraint) {
-    let parameter = record.parameter;
+    let kind = record.kind;
     say_field(b" c ", record.defined as u64);
     say_field(b" a ", record.first as u64);
     say_field(b" b ", record.second as u64);
-    say_field(b" n ", parameter.0 as u64);
+    number(kind, record.parameter);
     say(b" w ");
     say_word(constraint::start(record));
 }

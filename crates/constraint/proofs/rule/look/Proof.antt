@@ -1,7 +1,6 @@
 -- `look` meets its contract: in each arm the kind is known, and the definition computes. Assumes nothing.
 use Rattle.constraint.specs.declared.Counter.the-variants.{Fixed}
 use Rattle.constraint.proofs.Words.{narrow}
-use borrow.Author.Needs.{needs}
 use Rattle.constraint.proofs.rule.look.Statement.{statement}
 use Rattle.constraint.proofs.rule.look.Tie as tie
 
@@ -14,7 +13,7 @@ look-spec =
     (λ c. c .match .keys1)
     (λ c κs. tt)
     (λ c κs. tt)
-    (λ c κs. rw (c .before .counter-range .ensures) (narrow Fixed (c .before .before .before .before .before .before .before .args .constraint .parameter) (search needs)))
+    (λ c κs. rw (c .before .counter-range .ensures) (narrow Fixed (c .before .before .before .before .before .before .before .args .constraint .parameter)))
     (λ c. c .match .keys2)
     (λ c κs. tt)
     (λ c. c .match .keys3)

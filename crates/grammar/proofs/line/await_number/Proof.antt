@@ -23,7 +23,6 @@ await-number-spec =
     (λ c. search needs)
     (λ c. search needs)
     (λ c. search needs)
-    (λ c. search needs)
     returns
     (λ c. rw (sym (c .before .before .decimal .ensures) ∙ c .enum-told .given .1))
     (λ c. rw (sym (c .before .before .decimal .ensures) ∙ c .enum-told2 .given .1))

@@ -9,14 +9,14 @@ use Rattle.monitor_c.proofs.lists.put_record.Tie as tie
 
 returns : tie.Need-returns
 returns c =
-    let s = c .before .before .before .before .before .before .before .before in
+    let s = c .before .before .before .before .before .before .before in
     let i = s .args .at in
     let e1 : i + 1 ≡ suc i = omega arith in
     let e2 : i + 2 ≡ suc (suc i) = omega arith in
     let e3 : i + 3 ≡ suc (suc (suc i)) = omega arith in
     let e4 : i + 4 ≡ suc (suc (suc (suc i))) = omega arith in
     let e5 : i + 5 ≡ suc (suc (suc (suc (suc i)))) = omega arith in
-    rw (c .before .before .before .before .kind-number .ensures, e1, e2, e3, e4, e5) refl
+    rw (c .before .before .before .kind-number .ensures, e1, e2, e3, e4, e5) refl
 
 pub put-record-spec : {M : Type 1} → statement M
 put-record-spec =
@@ -39,10 +39,9 @@ put-record-spec =
     (λ c. simp length-set (omega (arith, c .before .before .before .before .before .before .before .pre)))
     (λ c. search needs)
     (λ c. search needs)
+    (λ c. simp length-set (omega (arith, c .before .before .before .before .before .before .before .pre)))
     (λ c. search needs)
-    (λ c. simp length-set (omega (arith, c .before .before .before .before .before .before .before .before .pre)))
     (λ c. search needs)
-    (λ c. search needs)
-    (λ c. simp length-set (omega (arith, c .before .before .before .before .before .before .before .before .pre)))
+    (λ c. simp length-set (omega (arith, c .before .before .before .before .before .before .before .pre)))
     (λ c. search needs)
     returns)

@@ -8,14 +8,6 @@ use borrow.Author.Needs.{needs}
 use Rattle.monitor_c.proofs.records.record_at.Statement.{statement}
 use Rattle.monitor_c.proofs.records.record_at.Tie as tie
 
-cast-t27 : tie.Need-cast-t27
-cast-t27 c =
-    let s = c .before .before .before .before .before .before .before .before .before .before .before .args in
-    let ns = s .numbers .now in
-    let i = s .at in
-    let below : c .at-most .result < 4_294_967_296 = rw (c .at-most .ensures) (omega (arith, at-most 4_294_967_295 (getD ns (i + 4) 0))) in
-    search (needs, below)
-
 returns : tie.Need-returns
 returns c =
     let number = c .before in
@@ -48,7 +40,6 @@ record-at-spec =
     (λ c. search needs)
     (λ c. search needs)
     (λ c κs. search needs)
-    cast-t27
     (λ c. search needs)
     (λ c. search needs)
     (λ c. search needs)

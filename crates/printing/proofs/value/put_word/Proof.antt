@@ -1,11 +1,14 @@
 -- `put_word` meets its contract: the sign where it is negative, then the digits of how far it is from 0. Assumes nothing.
 use Prim.Native.Nat.{_≤_}
-use mathlib.Core.Path.{sym, _∙_}
+use mathlib.Core.Path.{_≡_, sym, _∙_}
 use native.Mathlib.Omega.{arith}
+use lib.IntN.{natAbs}
 use lib.ListN.{length}
+use mir.Facts.{toZ-ofZ}
 use mir.Syntax.{w64}
 use mir.Val.{SFits}
 use borrow.Author.Needs.{needs}
+use Rattle.constraint.proofs.Words.{negative-is}
 use Rattle.text.specs.Digits.{digits}
 use Rattle.printing.proofs.DecimalLaws.{magnitude-few}
 use Rattle.printing.proofs.PrintedLaws.{signed-below, signed-above}
@@ -13,40 +16,43 @@ use Rattle.printing.proofs.PutLaws.{put-then}
 use Rattle.printing.proofs.value.put_word.Statement.{statement}
 use Rattle.printing.proofs.value.put_word.Tie as tie
 
--- a word has at most 19 digits
-few : (c : tie.After-magnitude) → length (digits (c .magnitude .result)) ≤ 19
-few c =
-    let z = c .before .before .args .w .0 in
-    let f : SFits w64 z = search needs in
-    rw (c .magnitude .ensures) (magnitude-few z (f .sfits))
+module _ (c : tie.After-magnitude) where
+  fits : SFits w64 (c .before .before .before .args .w .0)
+  fits = search needs
+
+  far : c .magnitude .result ≡ natAbs (c .before .before .before .args .w .0)
+  far = rw (toZ-ofZ fits) at (c .magnitude .ensures)
+
+  -- a word has at most 19 digits
+  few : length (digits (c .magnitude .result)) ≤ 19
+  few = rw far (magnitude-few (c .before .before .before .args .w .0) (fits .sfits))
 
 put-number-requires : tie.Need-put-number-requires
 put-number-requires c κs =
     let t = c .before .before .before in
-    omega (arith, few (t .before .before .before .before .before), t .put-text .ensures .ends, t .put-text .kept .0)
+    omega (arith, few (t .before .before .before .before), t .put-text .ensures .ends, t .put-text .kept .0)
 
 returns : tie.Need-returns
 returns c =
     let p = c .before .before in
     let t = p .before .before .before .before in
-    let m = t .before .before .before .before .before in
-    let z = m .before .before .args .w .0 in
-    let e = signed-below z (m .magnitude .ensures) (sym (t .before .before .before .before .below .ensures) ∙ t .before .before .before .if1 .taken) in
+    let m = t .before .before .before .before in
+    let z = m .before .before .before .args .w .0 in
+    let e = signed-below z (far m) (sym (negative-is z) ∙ (rw (toZ-ofZ (fits m)) at (t .before .before .before .if1 .taken))) in
     record { put = rw e (put-then (t .put-text .ensures) (p .put-number .ensures)); short = omega (arith, few m, t .put-text .ensures .ends, p .put-number .ensures .ends) }
 
 returns-2 : tie.Need-returns-2
 returns-2 c =
     let p = c .before .before in
-    let m = p .before .before .before .before in
-    let z = m .before .before .args .w .0 in
-    let e = signed-above z (m .magnitude .ensures) (sym (p .before .before .before .below .ensures) ∙ p .before .before .if1 .left) in
+    let m = p .before .before .before in
+    let z = m .before .before .before .args .w .0 in
+    let e = signed-above z (far m) (sym (negative-is z) ∙ (rw (toZ-ofZ (fits m)) at (p .before .before .if1 .left))) in
     rw e (p .spaced .ensures)
 
 pub put-word-spec : {M : Type 1} → statement M
 put-word-spec =
     tie.close
     (tie.spec
-    (λ c κs. search needs)
     (λ c κs. search needs)
     (λ c. search needs)
     (λ c κs. search needs)
