@@ -10,7 +10,7 @@ use Rattle.limit.specs.declared.Limit.{Limit}
 use Rattle.constraint.proofs.Booleans.{and-l, and-r}
 use Rattle.text.specs.Bytes.{allBytes}
 use Rattle.forms.specs.Forms.{Words, Line, grow, parts, nonempty, wordsOf, Form, IsForm, coincides, excludes, sub-clock, strictly-precedes, precedes, clock-def}
-use Rattle.forms.specs.Lines.{namesIn, Some, here, later, Filled, opened, tooDeep, unpaired, Breaks, byte-outside, too-deep, no-partner, no-form, long-name, await-number, name-twice, defined-above, many-clocks, many-constraints, BreaksNothing}
+use Rattle.forms.specs.Lines.{namesIn, Some, here, later, Filled, opened, tooDeep, unpaired, Breaks, byte-outside, too-deep, no-partner, no-form, long-name, await-number, delay-list, name-twice, defined-above, many-clocks, many-constraints, BreaksNothing}
 use Rattle.forms.proofs.SomeLaws.{some-none}
 
 -- ---- the words of a line of spaces, and of another
@@ -92,6 +92,7 @@ blank-breaks-nothing above l e m b = go (blank-words l e) b
     go q (no-form f n) = f q
     go q (long-name s) = some-none _ (namesIn (wordsOf l)) (names q) s
     go q (await-number h s) = form-filled h q
+    go q (delay-list h s) = form-filled h q
     go q (name-twice a b d n w) = no-cons a n _ (sym w ∙ names q)
     go q (defined-above d s) = form-filled (d .1) q
     go q (many-clocks f h) = f q

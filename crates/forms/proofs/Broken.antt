@@ -9,7 +9,7 @@ use Rattle.limit.specs.Limit.{numberOf}
 use Rattle.limit.specs.declared.Limit.{Limit}
 use Rattle.limit.specs.declared.Limit.the-variants.{LineByte, TableConstraints}
 use Rattle.forms.specs.Forms.{Line, linesOf}
-use Rattle.forms.specs.Lines.{lineChecks, turn, Breaks, byte-outside, too-deep, no-partner, no-form, long-name, await-number, name-twice, defined-above, many-clocks, many-constraints, BreaksNothing, NothingBroken, TableRefuses, too-long, by-line, TableReads}
+use Rattle.forms.specs.Lines.{lineChecks, turn, Breaks, byte-outside, too-deep, no-partner, no-form, long-name, await-number, delay-list, name-twice, defined-above, many-clocks, many-constraints, BreaksNothing, NothingBroken, TableRefuses, too-long, by-line, TableReads}
 
 -- ---- one line: no limit is broken whose check comes before a turn
 abbrev pub Clear : List Line → Line → ℕ → Type 0
@@ -28,6 +28,7 @@ module _ (above : List Line) (l : Line) where
   line-limits (no-form f n) = refl
   line-limits (long-name s) = refl
   line-limits (await-number h s) = refl
+  line-limits (delay-list h s) = refl
   line-limits (name-twice a b d n e) = refl
   line-limits (defined-above d s) = refl
   line-limits (many-clocks f h) = refl
@@ -56,6 +57,7 @@ module _ (above : List Line) (l : Line) where
       last-turn (no-form f n) = omega arith
       last-turn (long-name s) = omega arith
       last-turn (await-number h s) = omega arith
+      last-turn (delay-list h s) = omega arith
       last-turn (name-twice a b d n e) = omega arith
       last-turn (defined-above d s) = omega arith
       last-turn (many-clocks f h) = omega arith

@@ -4,7 +4,7 @@ use mathlib.Core.Path.{_≡_, refl, subst}
 use mathlib.Core.Bool.{true}
 use mathlib.Core.List.{List, [], _∷_, _++_}
 use Prim.Native.Nat.{ℕ, _+_}
-use Rattle.forms.specs.Forms.{Words, Line, Word, wordsOf, oneOf, both, awaits, Form, relates, defines, Operand, name, both-inside, awaits-inside, levels, HasForm}
+use Rattle.forms.specs.Forms.{Words, Line, Word, wordsOf, oneOf, both, awaits, delays, Form, relates, defines, Operand, name, both-inside, awaits-inside, delays-inside, levels, HasForm}
 use Rattle.forms.specs.Lines.{namesIn, withNames, withLines, clockNames, Some, here, later, DefinesClock, implicits, clockOf, operandRecords, recordsOf}
 use Rattle.forms.proofs.ClockNames.{Keeps, AllOf, all-left, all-right, all-kept, names-have, lines-keep, names-more}
 use Rattle.forms.proofs.FormWords.{operandNames, formNames, form-names}
@@ -33,6 +33,7 @@ module _ (us vs : Words) (e : Keeps us vs) (from n : ℕ) where
   clock-kept k (name w) a = e w (a .0) .1
   clock-kept k (both-inside d x y) a = refl
   clock-kept k (awaits-inside m x) a = refl
+  clock-kept k (delays-inside ms x y) a = refl
 
   both-kept : (k c : ℕ) (x y : Operand) → AllOf us (operandNames x ++ operandNames y) → (clockOf vs from n k x ≡ clockOf us from n k x) × (clockOf vs from n (k + implicits x) y ≡ clockOf us from n (k + implicits x) y)
   both-kept k c x y a = (clock-kept k x (all-left us (operandNames x) (operandNames y) a), clock-kept (k + implicits x) y (all-right us (operandNames x) (operandNames y) a))
@@ -43,6 +44,9 @@ module _ (us vs : Words) (e : Keeps us vs) (from n : ℕ) where
       let p = both-kept k 0 x y a in
       rw (p .0, p .1, operand-kept k x (all-left us (operandNames x) (operandNames y) a), operand-kept (k + implicits x) y (all-right us (operandNames x) (operandNames y) a))
   operand-kept k (awaits-inside m x) a = rw (clock-kept k x a, operand-kept k x a)
+  operand-kept k (delays-inside ms x y) a =
+      let p = both-kept k 0 x y a in
+      rw (p .0, p .1, operand-kept k x (all-left us (operandNames x) (operandNames y) a), operand-kept (k + implicits x) y (all-right us (operandNames x) (operandNames y) a))
 
   pub records-kept : (k : ℕ) (f : Form Operand) → AllOf us (formNames f) → recordsOf vs from n k f ≡ recordsOf us from n k f
   records-kept k (relates j x y) a =
@@ -52,3 +56,6 @@ module _ (us vs : Words) (e : Keeps us vs) (from n : ℕ) where
       let p = both-kept k 0 x y (a .1) in
       rw (e c (a .0) .1, p .0, p .1, operand-kept k x (all-left us (operandNames x) (operandNames y) (a .1)), operand-kept (k + implicits x) y (all-right us (operandNames x) (operandNames y) (a .1)))
   records-kept k (defines c (awaits m x)) a = rw (e c (a .0) .1, clock-kept k x (a .1), operand-kept k x (a .1))
+  records-kept k (defines c (delays ms x y)) a =
+      let p = both-kept k 0 x y (a .1) in
+      rw (e c (a .0) .1, p .0, p .1, operand-kept k x (all-left us (operandNames x) (operandNames y) (a .1)), operand-kept (k + implicits x) y (all-right us (operandNames x) (operandNames y) (a .1)))

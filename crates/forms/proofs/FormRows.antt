@@ -6,14 +6,14 @@ use mathlib.Core.Bool.{Bool, true, false, cond, _&&_}
 use mathlib.Core.List.{List, [], _∷_, _++_, append-assoc}
 use Prim.Native.Nat.{ℕ, zero, suc}
 use Rattle.constraint.proofs.Booleans.{and-l, and-r}
-use Rattle.constraint.specs.declared.Definition.the-variants.{Await as AwaitKind}
+use Rattle.constraint.specs.declared.Definition.the-variants.{Await as AwaitKind, Deferred}
 use Rattle.constraint.specs.declared.Kind.the-variants.{Defines}
 use Rattle.text.specs.Ascii.{ascii}
-use Rattle.text.specs.Bytes.{sameBytes}
+use Rattle.text.specs.Bytes.{allBytes, sameBytes}
 use Rattle.text.specs.Split.{bytesOf, front, rest}
 use Rattle.text.specs.declared.Span.{Span}
 use Rattle.grammar.specs.Building.{provisional, withImplicit}
-use Rattle.grammar.specs.Grammar.{noForm, parsed, andThen, Placed, Formed, token, clockOf, name as «nameRead», sides, expression, isSide, inner as «innerRead», operand, formIn}
+use Rattle.grammar.specs.Grammar.{noForm, parsed, andThen, Placed, Formed, token, clockOf, name as «nameRead», sides, listed, expression, isSide, inner as «innerRead», operand, formIn}
 use Rattle.grammar.specs.Names.{numberIn}
 use Rattle.grammar.specs.Tokens.{is, lookUp}
 use Rattle.grammar.specs.declared.Inner.{Inner}
@@ -21,7 +21,7 @@ use Rattle.grammar.specs.declared.Names.{Names}
 use Rattle.grammar.specs.declared.Token.the-variants.{Name, Open, Close}
 use Rattle.grammar.proofs.GrammarLaws.{Each, each-only, each-then, name-some, operand-name, inner-some}
 use Rattle.grammar.proofs.TokenLaws.{told-apart}
-use Rattle.forms.specs.Forms.{Word, Words, isName, Right, both, awaits, Form, IsRight, IsForm, Operand, name, both-inside, awaits-inside, inner, IsOperandOf, one-name, in-parentheses, IsOperand}
+use Rattle.forms.specs.Forms.{Word, Words, isName, isDigits, Right, both, awaits, delays, Form, IsRight, IsForm, Operand, name, both-inside, awaits-inside, delays-inside, inner, IsOperandOf, one-name, in-parentheses, IsOperand}
 use Rattle.forms.proofs.FormLaws.{Opens, by-name, by-other, Took, OperandTaken, Agrees, parameterOf, rightOf, formWith, SideTaken, RightTaken, right-taken, right-side, expression-sound, right-complete, LineTaken, reads-forms, no-form-fits}
 use Rattle.forms.proofs.Said.{said, First, first-is, first-told, some-first}
 use Rattle.forms.proofs.WordLaws.{name-is, open-word, close-word}
@@ -56,10 +56,15 @@ module _ (t : List ℕ) (ns : Names) where
     constraint = sides (Defines k) (placed s x .clock) (placed (placed s x .left) y .clock) (record { 0 = 0 });
   })
   placed s (awaits-inside n x) = enclosed (record { left = placed s x .left; constraint = sides (Defines AwaitKind) (placed s x .clock) 0 (record { 0 = parameterOf n }) })
+  placed s (delays-inside ms x y) = enclosed (record {
+    left = placed (placed s x .left) y .left;
+    constraint = sides (Defines Deferred) (placed s x .clock) (placed (placed s x .left) y .clock) (record { 0 = listed ms });
+  })
 
   placed-inner : (s : Inner) (r : Right Operand) → placed s (inner r) ≡ enclosed (rightOf placed s r)
   placed-inner s (both k x y) = refl
   placed-inner s (awaits n x) = refl
+  placed-inner s (delays ms x y) = refl
 
   -- ---- the readers agree with the rows, level by level
   module _ (Side : Words → Right Operand → Type 0) where
@@ -117,13 +122,13 @@ module _ (t : List ℕ) (ns : Names) where
         go false o = name-sound (IsRight (IsOperand n)) s ws
 
     deeper-complete : (s : Inner) (ws : List Span) (a : Words) (x : Operand) (us : Words) → Op a x → said t ws ≡ a ++ us → Took t (operand t ns (suc n) s ws) (placed s x) us
-    unfolding operand lookUp sameBytes
+    unfolding operand lookUp sameBytes isDigits allBytes
     deeper-complete s ws a x us (one-name {n = w} h) e = name-complete (suc n) s ws w us h e
     deeper-complete s ws a x us (in-parentheses {ws = vs} {r = r} h) e =
         let f : First t ws (ascii "(") ((vs ++ ascii ")" ∷ []) ++ us) = first-is t ws (ascii "(") ((vs ++ ascii ")" ∷ []) ++ us) e in
         let o : is Open (token t ws) ≡ true = first-told t Bool (is Open) true ws (ascii "(") ((vs ++ ascii ")" ∷ []) ++ us) e refl in
         let g : Took t (expression t (operand t ns n) s (rest ws)) (rightOf placed s r) (ascii ")" ∷ us) =
-        right-complete t (IsOperand n) placed (operand t ns n) A s (rest ws) vs (ascii ")" ∷ us) r h (f .after ∙ append-assoc vs (ascii ")" ∷ []) us) in
+        right-complete t (IsOperand n) placed (operand t ns n) A s (rest ws) vs (ascii ")" ∷ us) r h refl (f .after ∙ append-assoc vs (ascii ")" ∷ []) us) in
         let k : First t (g .left) (ascii ")") us = first-is t (g .left) (ascii ")") us (g .words) in
         let c : is Close (token t (g .left)) ≡ true = first-told t Bool (is Close) true (g .left) (ascii ")") us (g .words) refl in
         record {

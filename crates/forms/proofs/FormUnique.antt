@@ -1,8 +1,8 @@
 -- No line fits two forms: for any relation of operands in which the words in front determine the operand, since an operand's first
--- word, and the words of a kind, tell the rows apart; and operands in parentheses are such a relation, level by level. Assumes nothing.
+-- word, and the words of a kind, tell the rows apart, and a list of digit runs ends before a word that is none; and operands in parentheses are such a relation, level by level. Assumes nothing.
 use mathlib.Core.Path.{_≡_, refl, sym, ap, _∙_}
-use mathlib.Core.Bool.{cond, true, true≢false, false≢true}
-use mathlib.Core.List.{[], _∷_, _++_, append-assoc, append-nil}
+use mathlib.Core.Bool.{cond, true, false, true≢false, false≢true}
+use mathlib.Core.List.{[], _∷_, _++_, map, append-assoc, append-nil}
 use Prim.Native.Nat.{ℕ, zero, suc}
 use native.Mathlib.Omega.{arith}
 use Rattle.constraint.specs.declared.Definition.the-variants.{Union, Inter, Lub, Glb, Await as AwaitKind, StrictlySampled, Sampled, Upto, Deferred}
@@ -11,16 +11,17 @@ use Rattle.constraint.specs.declared.Kind.the-variants.{Empty, Relates, Defines
 use Rattle.constraint.specs.declared.Relation.{Relation}
 use Rattle.constraint.specs.declared.Relation.the-variants.{Coincides, Excludes, SubClock, StrictlyPrecedes, Precedes}
 use Rattle.text.specs.Ascii.{ascii}
-use Rattle.text.specs.Bytes.{sameBytes}
+use Rattle.text.specs.Bytes.{allBytes, sameBytes}
 use Rattle.text.specs.Digits.{value}
-use Rattle.grammar.specs.Grammar.{strictKind, plain, isKind}
+use Rattle.grammar.specs.Grammar.{strictKind, plain, isKind, isDelay}
 use Rattle.grammar.specs.Tokens.{is, tokenOf, lookUp}
+use Rattle.constraint.proofs.Booleans.{and-l, and-r}
 use Rattle.grammar.specs.declared.Token.the-variants.{Name, Await, Strictly}
 use Rattle.grammar.proofs.KindLaws.{notAwait}
-use Rattle.forms.specs.Forms.{Word, Words, wordsOf, nameShape, isName, Right, both, awaits, Form, relates, defines, IsRight, IsForm, Operand, name, inner, IsOperandOf, one-name, in-parentheses, IsOperand, levels, NoLineFitsTwoForms}
+use Rattle.forms.specs.Forms.{Word, Words, wordsOf, nameShape, isName, isDigits, allDigits, Right, both, awaits, delays, Form, relates, defines, IsRight, IsForm, Operand, name, inner, IsOperandOf, one-name, in-parentheses, IsOperand, levels, NoLineFitsTwoForms}
 use Rattle.forms.proofs.FormLaws.{Opens, by-name, by-other}
 use Rattle.forms.proofs.FormRows.{operands-open}
-use Rattle.forms.proofs.FormShapes.{Between, onward, RightShape, two, waits, right-shape, Shape, relation, definition, shape}
+use Rattle.forms.proofs.FormShapes.{NoRun, Between, onward, RightShape, two, listed, waits, right-shape, Shape, relation, definition, shape}
 use Rattle.forms.proofs.WordLaws.{kindWords, name-is}
 
 -- the kind that the first words say
@@ -45,7 +46,7 @@ kind-of (Defines AwaitKind) u us i n = absurd (false≢true n)
 kind-of (Defines StrictlySampled) u us i n = refl
 kind-of (Defines Sampled) u us i n = refl
 kind-of (Defines Upto) u us i n = refl
-kind-of (Defines Deferred) u us i n = absurd (false≢true n)
+kind-of (Defines Deferred) u us i n = refl
 
 cancel : (ks us vs : Words) → ks ++ us ≡ ks ++ vs → us ≡ vs
 cancel [] us vs e = e
@@ -55,10 +56,27 @@ kind-opened : (k : Kind) (c us : Words) → Opens c → isKind k ≡ true → no
 kind-opened k c us (by-name {n = n} h) i m = kind-of k n us i m
 kind-opened k c us (by-other {u = u} {us = vs} h g) i m = kind-of k u (vs ++ us) i m
 
+-- digit runs before words of which the first is none
+runs-same : (ns ms us zs : Words) → allDigits ns ≡ true → allDigits ms ≡ true → NoRun us → NoRun zs → ns ++ us ≡ ms ++ zs → (ns ≡ ms) × (us ≡ zs)
+runs-same [] [] us zs d e f g q = (refl, q)
+runs-same [] (m ∷ ms) [] zs d e f g q = let z : _≡_ {A = ℕ} 0 1 = cc in absurd (omega arith)
+runs-same [] (m ∷ ms) (u ∷ us) zs d e f g q = let h : u ≡ m = cc in absurd (false≢true (sym f ∙ ap isDigits h ∙ and-l (isDigits m) (allDigits ms) e))
+runs-same (n ∷ ns) [] us [] d e f g q = let z : _≡_ {A = ℕ} 0 1 = cc in absurd (omega arith)
+runs-same (n ∷ ns) [] us (z ∷ zs) d e f g q = let h : z ≡ n = cc in absurd (false≢true (sym g ∙ ap isDigits h ∙ and-l (isDigits n) (allDigits ns) d))
+runs-same (n ∷ ns) (m ∷ ms) us zs d e f g q =
+    let h : n ≡ m = cc in
+    let i : ns ++ us ≡ ms ++ zs = cc in
+    let r = runs-same ns ms us zs (and-r (isDigits n) (allDigits ns) d) (and-r (isDigits m) (allDigits ms) e) f g i in
+    (λ k. h k ∷ r .0 k, r .1)
+
 def-kind : (us : Words) → kindOf (ascii "clockDef" ∷ us) ≡ Empty
 unfolding lookUp sameBytes
 def-kind [] = refl
 def-kind (u ∷ us) = refl
+
+-- the list of a delay, with whatever words behind it
+behind : (ws vs ns us : Words) → ws ≡ vs ++ ascii "for" ∷ ns → ws ++ us ≡ vs ++ ascii "for" ∷ (ns ++ us)
+behind ws vs ns us e = ap (λ (z : Words). z ++ us) e ∙ append-assoc vs (ascii "for" ∷ ns) us
 
 module _ (O : Type 0) (IsOp : Words → O → Type 0) (opens : (a : Words) (x : O) → IsOp a x → Opens a)
     (one : (a c us vs : Words) (x y : O) → IsOp a x → IsOp c y → a ++ us ≡ c ++ vs → (x ≡ y) × (us ≡ vs)) where
@@ -75,26 +93,44 @@ module _ (O : Type 0) (IsOp : Words → O → Type 0) (opens : (a : Words) (x : 
   await-opens a us vs (by-name {n = n} h) e = let q : n ≡ ascii "await" = cc in false≢true (ap (λ u. is Name (tokenOf u)) (sym q) ∙ name-is n ∙ h)
   await-opens a us vs (by-other {u = u} {us = ws} h k) e = let q : u ≡ ascii "await" = cc in true≢false (ap (λ u. is Await (tokenOf u)) (sym q) ∙ k)
 
-  module _ (ws vs us zs : Words) (e : ws ++ us ≡ vs ++ zs) where
-    shapes-same : (r s : Right O) → RightShape O IsOp ws r → RightShape O IsOp vs s → (r ≡ s) × (us ≡ zs)
-    shapes-same r s (two {k = k} {x = x} {y = y} p) (two {k = j} {x = v} {y = w} q) =
-        let f = one-pair ws vs us zs (Defines k) (Defines j) x y v w p q e in
-        let d : k ≡ j = cc (f .0) in
-        (λ i. both (d i) (f .1 i) (f .2 i), f .3)
-    shapes-same r s (two {k = k} {x = x} {y = y} p) (waits {n = n} {a = a} b q h) =
-        absurd (await-opens (p .a) (kindWords (Defines k) ++ (p .c ++ us)) (n ∷ (a ++ zs)) (opens (p .a) x (p .first)) (sym (onward O IsOp (Defines k) x y ws us p) ∙ e ∙ ap (λ (z : Words). z ++ zs) h))
-    shapes-same r s (waits {n = n} {a = a} b p h) (two {k = k} {x = x} {y = y} q) =
-        absurd (await-opens (q .a) (kindWords (Defines k) ++ (q .c ++ zs)) (n ∷ (a ++ us)) (opens (q .a) x (q .first)) (sym (onward O IsOp (Defines k) x y vs zs q) ∙ sym e ∙ ap (λ (z : Words). z ++ us) h))
-    shapes-same r s (waits {n = n} {a = a} {x = x} b p h) (waits {n = m} {a = c} {x = y} t q g) =
-        let d : ascii "await" ∷ n ∷ (a ++ us) ≡ ascii "await" ∷ m ∷ (c ++ zs) = ap (λ (z : Words). z ++ us) (sym h) ∙ e ∙ ap (λ (z : Words). z ++ zs) g in
-        let i : n ≡ m = cc in
-        let j : a ++ us ≡ c ++ zs = cc in
-        let o = one a c us zs x y p q j in
-        (λ k. awaits (value 0 (i k)) (o .0 k), o .1)
+  pair-no-await : (k : Kind) (x y : O) (ws us vs : Words) → Between O IsOp k x y ws → ws ++ us ≡ ascii "await" ∷ vs → ⊥
+  pair-no-await k x y ws us vs p e = await-opens (p .a) (kindWords k ++ (p .c ++ us)) vs (opens (p .a) x (p .first)) (sym (onward O IsOp k x y ws us p) ∙ e)
 
-    -- the words in front determine a right side
-    pub front-right : (r s : Right O) → IsRight IsOp ws r → IsRight IsOp vs s → (r ≡ s) × (us ≡ zs)
-    front-right r s p q = shapes-same r s (right-shape O IsOp ws r p) (right-shape O IsOp vs s q)
+  module _ (us zs : Words) (f : NoRun us) (g : NoRun zs) where
+    shapes-same : (ws vs : Words) (r s : Right O) → RightShape O IsOp ws r → RightShape O IsOp vs s → ws ++ us ≡ vs ++ zs → (r ≡ s) × (us ≡ zs)
+    shapes-same ws vs r s (two {k = k} {x = x} {y = y} n p) (two {k = j} {x = v} {y = w} m q) e =
+        let h = one-pair ws vs us zs (Defines k) (Defines j) x y v w p q e in
+        let d : k ≡ j = cc (h .0) in
+        (λ i. both (d i) (h .1 i) (h .2 i), h .3)
+    shapes-same ws vs r s (two {k = k} {x = x} {y = y} n p) (listed {vs = qs} ms {x = v} {y = w} q d h) e =
+        let i = one-pair ws qs us (ascii "for" ∷ (ms ++ zs)) (Defines k) (Defines Deferred) x y v w p q (e ∙ behind vs qs ms zs h) in
+        absurd (false≢true (sym n ∙ ap isDelay (i .0)))
+    shapes-same ws vs r s (listed {vs = ps} ns {x = x} {y = y} p d h) (two {k = j} {x = v} {y = w} m q) e =
+        let i = one-pair ps vs (ascii "for" ∷ (ns ++ us)) zs (Defines Deferred) (Defines j) x y v w p q (sym (behind ws ps ns us h) ∙ e) in
+        absurd (false≢true (sym m ∙ ap isDelay (sym (i .0))))
+    shapes-same ws vs r s (listed {vs = ps} ns {x = x} {y = y} p d h) (listed {vs = qs} ms {x = v} {y = w} q c j) e =
+        let i = one-pair ps qs (ascii "for" ∷ (ns ++ us)) (ascii "for" ∷ (ms ++ zs)) (Defines Deferred) (Defines Deferred) x y v w p q (sym (behind ws ps ns us h) ∙ e ∙ behind vs qs ms zs j) in
+        let k : ns ++ us ≡ ms ++ zs = cc (i .3) in
+        let o = runs-same ns ms us zs d c f g k in
+        (λ l. delays (map (value 0) (o .0 l)) (i .1 l) (i .2 l), o .1)
+    shapes-same ws vs r s (two {k = k} {x = x} {y = y} m p) (waits {n = n} {a = a} b q h) e =
+        absurd (pair-no-await (Defines k) x y ws us (n ∷ (a ++ zs)) p (e ∙ ap (λ (z : Words). z ++ zs) h))
+    shapes-same ws vs r s (waits {n = n} {a = a} b p h) (two {k = k} {x = x} {y = y} m q) e =
+        absurd (pair-no-await (Defines k) x y vs zs (n ∷ (a ++ us)) q (sym e ∙ ap (λ (z : Words). z ++ us) h))
+    shapes-same ws vs r s (listed {vs = ps} ns {x = x} {y = y} p d j) (waits {n = n} {a = a} b q h) e =
+        absurd (pair-no-await (Defines Deferred) x y ps (ascii "for" ∷ (ns ++ us)) (n ∷ (a ++ zs)) p (sym (behind ws ps ns us j) ∙ e ∙ ap (λ (z : Words). z ++ zs) h))
+    shapes-same ws vs r s (waits {n = n} {a = a} b p h) (listed {vs = qs} ms {x = x} {y = y} q d j) e =
+        absurd (pair-no-await (Defines Deferred) x y qs (ascii "for" ∷ (ms ++ zs)) (n ∷ (a ++ us)) q (sym (behind vs qs ms zs j) ∙ sym e ∙ ap (λ (z : Words). z ++ us) h))
+    shapes-same ws vs r s (waits {n = n} {a = a} {x = x} b p h) (waits {n = m} {a = c} {x = y} t q j) e =
+        let d : ascii "await" ∷ n ∷ (a ++ us) ≡ ascii "await" ∷ m ∷ (c ++ zs) = ap (λ (z : Words). z ++ us) (sym h) ∙ e ∙ ap (λ (z : Words). z ++ zs) j in
+        let i : n ≡ m = cc in
+        let k : a ++ us ≡ c ++ zs = cc in
+        let o = one a c us zs x y p q k in
+        (λ l. awaits (value 0 (i l)) (o .0 l), o .1)
+
+    -- the words in front determine a right side, where no digit run stands behind it
+    pub front-right : (ws vs : Words) (r s : Right O) → IsRight IsOp ws r → IsRight IsOp vs s → ws ++ us ≡ vs ++ zs → (r ≡ s) × (us ≡ zs)
+    front-right ws vs r s p q = shapes-same ws vs r s (right-shape O IsOp ws r p) (right-shape O IsOp vs s q)
 
   never-both : (k : Relation) (x y : O) (us rs : Words) (c : Word) → Between O IsOp (Relates k) x y us → isName c ≡ true → us ≡ c ∷ ascii "clockDef" ∷ rs → ⊥
   never-both k x y us rs c p n e = go (p .a) (opens (p .a) x (p .first)) (sym (p .words) ∙ e)
@@ -119,16 +155,17 @@ module _ (O : Type 0) (IsOp : Words → O → Type 0) (opens : (a : Words) (x : 
       go f g (definition {c = c} {rs = rs} {r = r} n p e) (definition {c = d} {rs = ss} {r = s} m q h) =
           let u : c ≡ d = cc in
           let v : rs ≡ ss = cc in
-          let w : r ≡ s = front-right rs ss [] [] (ap (λ (z : Words). z ++ []) v) r s p q .0 in
+          let w : r ≡ s = front-right [] [] tt tt rs ss r s p q (ap (λ (z : Words). z ++ []) v) .0 in
           λ i. defines (u i) (w i)
 
 -- ---- operands, level by level
-module _ (Side : Words → Right Operand → Type 0) (one : (ws vs us zs : Words) (r s : Right Operand) → Side ws r → Side vs s → ws ++ us ≡ vs ++ zs → (r ≡ s) × (us ≡ zs)) where
+module _ (Side : Words → Right Operand → Type 0) (one : (us zs : Words) → NoRun us → NoRun zs → (ws vs : Words) (r s : Right Operand) → Side ws r → Side vs s → ws ++ us ≡ vs ++ zs → (r ≡ s) × (us ≡ zs)) where
   not-open : (n : Word) (us vs : Words) → isName n ≡ true → n ∷ us ≡ ascii "(" ∷ vs → ⊥
   unfolding nameShape
   not-open n us vs h e = let q : n ≡ ascii "(" = cc in false≢true (ap isName (sym q) ∙ h)
 
   one-inside : (a c us vs : Words) (x y : Operand) → IsOperandOf Side a x → IsOperandOf Side c y → a ++ us ≡ c ++ vs → (x ≡ y) × (us ≡ vs)
+  unfolding isDigits allBytes
   one-inside a c us vs x y (one-name {n = n} p) (one-name {n = m} q) e =
       let f : n ≡ m = cc in
       let g : us ≡ vs = cc in
@@ -137,14 +174,14 @@ module _ (Side : Words → Right Operand → Type 0) (one : (ws vs us zs : Words
   one-inside a c us vs x y (in-parentheses {ws = ws} p) (one-name {n = n} q) e = absurd (not-open n vs _ q (sym e))
   one-inside a c us vs x y (in-parentheses {ws = ws} {r = r} p) (in-parentheses {ws = zs} {r = s} q) e =
       let d : (ws ++ ascii ")" ∷ []) ++ us ≡ (zs ++ ascii ")" ∷ []) ++ vs = cc in
-      let f = one ws zs (ascii ")" ∷ us) (ascii ")" ∷ vs) r s p q (sym (append-assoc ws (ascii ")" ∷ []) us) ∙ d ∙ append-assoc zs (ascii ")" ∷ []) vs) in
+      let f = one (ascii ")" ∷ us) (ascii ")" ∷ vs) refl refl ws zs r s p q (sym (append-assoc ws (ascii ")" ∷ []) us) ∙ d ∙ append-assoc zs (ascii ")" ∷ []) vs) in
       let g : us ≡ vs = cc (f .1) in
       (ap inner (f .0), g)
 
 one-operand : (n : ℕ) (a c us vs : Words) (x y : Operand) → IsOperand n a x → IsOperand n c y → a ++ us ≡ c ++ vs → (x ≡ y) × (us ≡ vs)
 unfolding IsOperand
-one-operand zero = one-inside (λ ws r. ⊥) (λ ws vs us zs r s p q e. absurd p)
-one-operand (suc n) = one-inside (IsRight (IsOperand n)) (λ ws vs us zs r s p q e. front-right Operand (IsOperand n) (operands-open n) (one-operand n) ws vs us zs e r s p q)
+one-operand zero = one-inside (λ ws r. ⊥) (λ us zs f g ws vs r s p q e. absurd p)
+one-operand (suc n) = one-inside (IsRight (IsOperand n)) (front-right Operand (IsOperand n) (operands-open n) (one-operand n))
 
 pub one-form-of : (n : ℕ) (us : Words) (f g : Form Operand) → IsForm (IsOperand n) us f → IsForm (IsOperand n) us g → f ≡ g
 one-form-of n = one-form Operand (IsOperand n) (operands-open n) (one-operand n)

@@ -7,17 +7,18 @@ use Prim.Native.Nat.{ℕ, zero, suc, _+_, _-_, _≤_}
 use native.Mathlib.Omega.{arith}
 use borrow.Author.Tests.{eqb-true, ltb-false, le-ltb}
 use lib.Dec.{eqb, ltb}
+use Rattle.constraint.specs.declared.Definition.the-variants.{Deferred}
 use Rattle.constraint.specs.declared.Kind.{Kind}
 use Rattle.constraint.specs.declared.Kind.the-variants.{Relates, Defines}
 use Rattle.constraint.proofs.Booleans.{and-l, and-r, or-l, or-r}
 use Rattle.text.specs.Ascii.{ascii}
 use Rattle.text.specs.Bytes.{letter, digit, allBytes}
-use Rattle.forms.specs.Forms.{Word, Words, Line, grow, parts, nonempty, wordsOf, oneOf, nameShape, isName, isDigits, Right, Form, IsRight, await, IsForm, clock-def, Operand, name, inner, IsOperandOf, one-name, in-parentheses, IsOperand, levels}
+use Rattle.forms.specs.Forms.{Word, Words, Line, grow, parts, nonempty, wordsOf, oneOf, nameShape, isName, isDigits, Right, Form, IsRight, await, deferred, IsForm, clock-def, Operand, name, inner, IsOperandOf, one-name, in-parentheses, IsOperand, levels}
 use Rattle.forms.specs.Lines.{opened, tooDeep, SixteenLevelsAreEnough}
 use Rattle.forms.proofs.BlankLines.{space, paren, some-part}
 use Rattle.forms.proofs.FormLaws.{relation-row, right-row}
-use Rattle.forms.proofs.FormShapes.{Between, onward, RightShape, two, waits, right-shape, Shape, relation, definition, shape}
-use Rattle.forms.proofs.FormWords.{betweenWords, found-by-none, kind-passes, def-passes}
+use Rattle.forms.proofs.FormShapes.{Between, onward, RightShape, two, listed, waits, right-shape, Shape, relation, definition, shape}
+use Rattle.forms.proofs.FormWords.{betweenWords, found-by-none, kind-passes, def-passes, runs-pass}
 use Rattle.forms.proofs.SomeLaws.{anyOf}
 use Rattle.forms.proofs.WordLaws.{kindWords}
 
@@ -114,9 +115,16 @@ module _ (k : ℕ) (o : k ≤ 16) (IsOp Fits : Words → Operand → Type 0) (op
   side-fits ws us r h s = go r (right-shape Operand IsOp ws r h)
     where
       go : (r : Right Operand) → RightShape Operand IsOp ws r → IsRight Fits ws r × Shallow k us
-      go r (two {k = j} {x = x} {y = y} p) =
+      go r (two {k = j} {x = x} {y = y} n p) =
           let f = pair-fits (Defines j) x y ws us p s in
-          (rw (f .0 .words) (right-row Fits (f .0 .first) (f .0 .second) j (f .0 .plainly)), f .1)
+          (rw (f .0 .words) (right-row Fits (f .0 .first) (f .0 .second) j (f .0 .plainly) n), f .1)
+      go r (listed {vs = vs} ns {x = x} {y = y} p d e) =
+          let f = pair-fits (Defines Deferred) x y vs (ascii "for" ∷ (ns ++ us)) p (ap (λ (z : Words). tooDeep k (joined z)) (sym (ap (λ (z : Words). z ++ us) e ∙ append-assoc vs (ascii "for" ∷ ns) us)) ∙ s) in
+          let w : (f .0 .a ++ ascii "deferred" ∷ f .0 .c) ++ ascii "for" ∷ ns ≡ f .0 .a ++ ascii "deferred" ∷ (f .0 .c ++ ascii "for" ∷ ns) = append-assoc (f .0 .a) (ascii "deferred" ∷ f .0 .c) (ascii "for" ∷ ns) in
+          let g : Shallow k (ns ++ us) = sym (word-passes k o (ascii "for") (ns ++ us) refl) ∙ f .1 in (
+            rw (e, f .0 .words, w) (deferred ns (f .0 .first) (f .0 .second) d),
+            sym (runs-pass (λ z. tooDeep k (joined z)) (λ n us h. word-passes k o n us (digits-plain n h)) ns us d) ∙ g,
+          )
       go r (waits {n = n} {a = a} {x = x} d p e) =
           let s : Shallow k (n ∷ (a ++ us)) = sym (word-passes k o (ascii "await") (n ∷ (a ++ us)) refl) ∙ (rw e at s) in
           let f = operand a us x p (sym (word-passes k o n (a ++ us) (digits-plain n d)) ∙ s) in

@@ -1,30 +1,46 @@
 -- The records of lines that break nothing pass 59. Record by record: the clocks that it uses are named, or implicit and defined above it; its clocks
 -- are all different; and no record above it defines the clock that it defines. Assumes nothing.
 use mathlib.Core.Path.{_≡_, refl, sym, ap, ap₂, subst, _∙_}
-use mathlib.Core.Bool.{Bool, true, false, _||_, or-false, false≢true}
+use mathlib.Core.Bool.{Bool, true, false, _&&_, _||_, or-false, false≢true}
 use mathlib.Core.List.{List, [], _∷_, _++_, append-assoc, append-nil}
 use Prim.Native.Nat.{ℕ, _+_, _-_, _≤_, _<_}
 use native.Mathlib.Omega.{arith}
-use borrow.Author.Tests.{ltb-true, ltb-false, lt-ltb, le-ltb, le-leb, eqb-true, eqb-false, ne-eqb}
-use lib.Dec.{ltb, eqb}
+use borrow.Author.Tests.{ltb-true, ltb-false, lt-ltb, le-ltb, leb-true, le-leb, eqb-true, eqb-false, ne-eqb}
+use lib.Dec.{ltb, leb, eqb}
 use lib.ListN.{length, length-append}
 use Rattle.limit.specs.declared.Limit.the-variants.{DefinedTwice}
 use Rattle.constraint.specs.Lists.{allKnown, firstUnfit, brokenRecord}
-use Rattle.constraint.specs.Meaning.{counterOf, definedOf, usedOf, allBelow, among, distinct, parameterFits, clocksFit, wellFormed}
+use Rattle.constraint.specs.Meaning.{packed, counterOf, definedOf, usedOf, allBelow, among, distinct, parameterFits, clocksFit, wellFormed}
 use Rattle.constraint.specs.Ticks.{none, any}
 use Rattle.constraint.specs.declared.Broken.the-variants.{Nowhere}
 use Rattle.constraint.specs.declared.Clocks.{Clocks}
 use Rattle.constraint.specs.declared.Constraint.{Constraint}
+use Rattle.constraint.specs.declared.Counter.the-variants.{Pending}
 use Rattle.constraint.proofs.Booleans.{and-l, and-r}
+use Rattle.constraint.proofs.Delay.{allDelays, packed-numbers, delays-up-to}
 use Rattle.constraint.proofs.Named.{arity, paired-operands, paired-fits, relation-fits}
 use Rattle.constraint.proofs.OneMore.{definedIn, defined-more, fits-more, none-among, below-more, clocks-more}
-use Rattle.forms.specs.Forms.{Word, Words, Line, wordsOf, oneOf, Right, both, awaits, Form, relates, defines, Operand, name, both-inside, awaits-inside, inner, levels, HasForm}
+use Rattle.grammar.specs.Grammar.{allDelays as inRange, isList}
+use Rattle.forms.specs.Forms.{Word, Words, Line, wordsOf, oneOf, Right, both, awaits, delays, Form, relates, defines, Operand, name, both-inside, awaits-inside, delays-inside, inner, levels, HasForm}
 use Rattle.forms.specs.Lines.{namesIn, pairsIn, withNames, withLines, clockNames, pairs, Some, DefinesClock, defined-above, BreaksNothing, NothingBroken, standing, implicits, sideImplicits, formImplicits, clockOf, sideRecord, operandRecords, sideRecords, recordsOf, Recorded, no-line, blank, formed}
 use Rattle.forms.proofs.ClockNames.{AllOf, standing-below, standing-one}
 use Rattle.forms.proofs.FormNames.{lines-named}
 use Rattle.forms.proofs.FormWords.{operandNames, sideNames, formNames, form-pairs}
 use Rattle.forms.proofs.SomeLaws.{some-more, some-last}
 use Rattle.forms.proofs.SoundForms.{NoneTwice, Differ, Sound, SoundForm, line-sound}
+
+-- ---- a list of delays that is in range is in range as it is kept
+delays-are : (ns : List ℕ) → inRange ns ≡ true → allDelays ns
+delays-are [] e = tt
+delays-are (n ∷ ns) e =
+    let h : (leb 1 n && leb n 32) ≡ true = and-l (leb 1 n && leb n 32) (inRange ns) e in
+    (leb-true 1 n (and-l (leb 1 n) (leb n 32) h), leb-true n 32 (and-r (leb 1 n) (leb n 32) h), delays-are ns (and-r (leb 1 n && leb n 32) (inRange ns) e))
+
+packed-fits : (ns : List ℕ) → isList ns ≡ true → parameterFits Pending (record { 0 = packed ns }) ≡ true
+packed-fits ns e =
+    let l : (leb 1 (length ns) && leb (length ns) 8) ≡ true = and-l (leb 1 (length ns) && leb (length ns) 8) (inRange ns) e in
+    let d : allDelays ns = delays-are ns (and-r (leb 1 (length ns) && leb (length ns) 8) (inRange ns) e) in
+    rw (packed-numbers 8 ns (leb-true (length ns) 8 (and-r (leb 1 (length ns)) (leb (length ns) 8) l)) d, and-l (leb 1 (length ns)) (leb (length ns) 8) l) (delays-up-to ns d)
 
 module _ (ns : Words) where
   -- the number of the first implicit clock; all names, and k implicit clocks
@@ -142,6 +158,7 @@ module _ (ns : Words) where
     stands : (k : ℕ) (x : Operand) → Sound ns x → Stands k x (clock k x)
     stands k (name w) s = a-name refl s
     stands k (both-inside d x y) s = an-implicit (k + (implicits x + implicits y)) (omega arith) (omega arith)
+    stands k (delays-inside ms x y) s = an-implicit (k + (implicits x + implicits y)) (omega arith) (omega arith)
     stands k (awaits-inside m x) s = an-implicit (k + implicits x) (omega arith) (omega arith)
 
     clock-below : (k : ℕ) (x : Operand) → Sound ns x → clock k x < from + (k + implicits x)
@@ -171,17 +188,23 @@ module _ (ns : Words) where
     side-defines : (k c : ℕ) (r : Right Operand) → definedOf (sideRecord ns from n k c r) ≡ c ∷ []
     side-defines k c (both d x y) = refl
     side-defines k c (awaits m x) = refl
+    side-defines k c (delays ms x y) = refl
 
     side-fits : (k c : ℕ) (r : Right Operand) → Sound ns (inner r) → Fitting (k + sideImplicits r) (sideRecord ns from n k c r)
     side-fits k c (both d x y) s = record { uses = rw (paired-operands (arity d) (clock k x) (clock (k + implicits x) y) (s .0)) (pair-fits k x y (s .1) (s .2) (s .3)); number = paired-fits (arity d) _ (s .0) }
     side-fits k c (awaits m x) s = record { uses = rw (lt-ltb _ _ (clock-below k x (s .1))); number = s .0 }
+    side-fits k c (delays ms x y) s = record { uses = pair-fits k x y (s .1) (s .2) (s .3); number = packed-fits ms (s .0) }
+
+    pair-other : (k : ℕ) (c : Word) (x y : Operand) → oneOf ns c ≡ true → Sound ns x → Sound ns y → NoneTwice (c ∷ (operandNames x ++ operandNames y)) → among (standing ns c) (clock k x ∷ clock (k + implicits x) y ∷ []) ≡ false
+    pair-other k c x y o u v t =
+        let a = clocks-differ k k (name c) x (omega arith) o u (λ w e f. t [] [] (operandNames y) w (ap₂ (λ (u v : Operand). operandNames u ++ (operandNames v ++ operandNames y)) e f)) in
+        let b = clocks-differ k (k + implicits x) (name c) y (omega arith) o v (λ w e f. t [] (operandNames x) [] w (ap₂ (λ (u v : Operand). operandNames u ++ (operandNames x ++ operandNames v)) e f)) in
+        rw (a, b)
 
     side-other : (k : ℕ) (c : Word) (r : Right Operand) → oneOf ns c ≡ true → Sound ns (inner r) → NoneTwice (c ∷ sideNames r) → among (standing ns c) (usedOf (sideRecord ns from n k (standing ns c) r)) ≡ false
-    side-other k c (both d x y) o s t =
-        let a = clocks-differ k k (name c) x (omega arith) o (s .1) (λ w e f. t [] [] (operandNames y) w (ap₂ (λ (u v : Operand). operandNames u ++ (operandNames v ++ operandNames y)) e f)) in
-        let b = clocks-differ k (k + implicits x) (name c) y (omega arith) o (s .2) (λ w e f. t [] (operandNames x) [] w (ap₂ (λ (u v : Operand). operandNames u ++ (operandNames x ++ operandNames v)) e f)) in
-        rw (paired-operands (arity d) (clock k x) (clock (k + implicits x) y) (s .0), a, b)
+    side-other k c (both d x y) o s t = rw (paired-operands (arity d) (clock k x) (clock (k + implicits x) y) (s .0)) (pair-other k c x y o (s .1) (s .2) t)
     side-other k c (awaits m x) o s t = rw (clocks-differ k k (name c) x (omega arith) o (s .1) (λ w e f. t [] [] [] w (ap₂ (λ (u v : Operand). operandNames u ++ operandNames v) e f)))
+    side-other k c (delays ms x y) o s t = pair-other k c x y o (s .1) (s .2) t
 
     -- ---- the records of operands, of right sides and of forms
     module _ (above : List Line) where
@@ -200,11 +223,13 @@ module _ (ns : Words) where
       operand-passes : (x : Operand) → Sound ns x → Passes x
       operand-passes (name w) s k qs p = moved (omega arith) (sym (append-nil qs)) p
       operand-passes (both-inside d x y) s k qs p = moved (omega arith) refl (enclosed k qs (both d x y) s (pair-passes x y (operand-passes x (s .1)) (operand-passes y (s .2)) k qs p))
+      operand-passes (delays-inside ms x y) s k qs p = moved (omega arith) refl (enclosed k qs (delays ms x y) s (pair-passes x y (operand-passes x (s .1)) (operand-passes y (s .2)) k qs p))
       operand-passes (awaits-inside m x) s k qs p = moved (omega arith) refl (enclosed k qs (awaits m x) s (operand-passes x (s .1) k qs p))
 
       side-passes : (r : Right Operand) → Sound ns (inner r) → (k : ℕ) (qs : List Constraint) → Passing above k qs → Passing above (k + sideImplicits r) (qs ++ sideRecords ns from n k r)
       side-passes (both d x y) s = pair-passes x y (operand-passes x (s .1)) (operand-passes y (s .2))
       side-passes (awaits m x) s = operand-passes x (s .1)
+      side-passes (delays ms x y) s = pair-passes x y (operand-passes x (s .1)) (operand-passes y (s .2))
 
       form-passes : (l : Line) (f : Form Operand) → BreaksNothing above l → HasForm l f → SoundForm ns f → (k : ℕ) (qs : List Constraint) → Passing above k qs
           → Passing (above ++ l ∷ []) (k + formImplicits f) (qs ++ recordsOf ns from n k f)

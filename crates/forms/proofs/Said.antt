@@ -102,7 +102,7 @@ module _ (t : List ℕ) where
   kind-is us (Defines StrictlySampled) bs i n e = two-words us (Defines StrictlySampled) (ascii "sampled") bs refl e
   kind-is us (Defines Sampled) bs i n e = one-word us (Defines Sampled) (ascii "sampled") bs refl refl e
   kind-is us (Defines Upto) bs i n e = one-word us (Defines Upto) (ascii "upto") bs refl refl e
-  kind-is us (Defines Deferred) bs i n e = absurd (false≢true n)
+  kind-is us (Defines Deferred) bs i n e = one-word us (Defines Deferred) (ascii "deferred") bs refl refl e
 
   -- what a relation's kind says is not clockDef
   pub no-clock-def : (k : Relation) (us : List Span) (bs : Words) → said t us ≡ kindWords (Relates k) ++ bs → is ClockDef (token t us) ≡ false

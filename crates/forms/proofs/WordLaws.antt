@@ -19,7 +19,7 @@ use Rattle.text.proofs.Bytes.{same-equal}
 use Rattle.grammar.specs.Grammar.{plain, strictKind, isKind}
 use Rattle.grammar.specs.Tokens.{is, Spelled, _says_, shapeOf, lookUp, formWords, tokenOf}
 use Rattle.grammar.specs.declared.Token.{Token}
-use Rattle.grammar.specs.declared.Token.the-variants.{End, Other, Name, Digits, ClockDef, Await, Strictly, Open, Close}
+use Rattle.grammar.specs.declared.Token.the-variants.{End, Other, Name, Digits, ClockDef, Await, Strictly, Open, Close, For}
 use Rattle.grammar.proofs.TokenLaws.{allSpelled, look-all, shape-all}
 use Rattle.forms.specs.Forms.{Word, Words, oneOf, formWords as listedWords, nameShape, isName, isDigits}
 
@@ -43,7 +43,7 @@ kindWords (Defines AwaitKind) = []
 kindWords (Defines StrictlySampled) = ascii "strictly" ∷ ascii "sampled" ∷ []
 kindWords (Defines Sampled) = ascii "sampled" ∷ []
 kindWords (Defines Upto) = ascii "upto" ∷ []
-kindWords (Defines Deferred) = []
+kindWords (Defines Deferred) = ascii "deferred" ∷ []
 
 abbrev sameWords : Words → Words → Bool
 sameWords [] [] = true
@@ -80,7 +80,7 @@ strict-word w e =
     let s : twoWords (w says shapeOf w) ≡ true = rw n in
     same-words (ascii "strictly" ∷ w ∷ []) (kindWords (strictKind (plain (tokenOf w)))) (implied _ _ (look-all twoWords w s formWords refl) e)
 
--- ---- clockDef, await and strictly
+-- ---- clockDef, await, strictly, for and the parentheses
 abbrev saidBy : Token → Word → Spelled → Bool
 saidBy k u s = not (is k (s .token)) || sameBytes (s .bytes) u
 
@@ -102,6 +102,10 @@ await-word = word-said Await (ascii "await") refl refl refl refl refl
 pub strictly-word : (w : Word) → is Strictly (tokenOf w) ≡ true → w ≡ ascii "strictly"
 unfolding sameBytes
 strictly-word = word-said Strictly (ascii "strictly") refl refl refl refl refl
+
+pub for-word : (w : Word) → is For (tokenOf w) ≡ true → w ≡ ascii "for"
+unfolding sameBytes
+for-word = word-said For (ascii "for") refl refl refl refl refl
 
 pub open-word : (w : Word) → is Open (tokenOf w) ≡ true → w ≡ ascii "("
 unfolding sameBytes

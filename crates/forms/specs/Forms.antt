@@ -1,8 +1,8 @@
--- The forms of a table's lines, apart from any reader: document 01, "Table text", row by row, and operands in parentheses (document 02, M-101).
--- A line is a list of bytes, and so is a word. Assumes nothing.
+-- The forms of a table's lines, apart from any reader: document 01, "Table text", row by row, and operands in parentheses (document 02, M-101) and
+-- delays (M-105). A line is a list of bytes, and so is a word. Assumes nothing.
 use mathlib.Core.Path.{_≡_, refl}
 use mathlib.Core.Bool.{Bool, true, false, not, cond, _&&_, _||_}
-use mathlib.Core.List.{List, [], _∷_, _++_}
+use mathlib.Core.List.{List, [], _∷_, _++_, map}
 use Prim.Native.Nat.{ℕ, zero, suc}
 use lib.Dec.{eqb}
 use Rattle.constraint.specs.declared.Definition.{Definition}
@@ -59,7 +59,7 @@ oneOf (u ∷ us) w = sameBytes w u || oneOf us w
 abbrev pub formWords : Words
 formWords =
     ascii "=" ∷ ascii "#" ∷ ascii "isSubClockOf" ∷ ascii "strictly" ∷ ascii "precedes" ∷ ascii "clockDef" ∷ ascii "clockUnion" ∷ ascii "clockInter" ∷
-    ascii "lub" ∷ ascii "glb" ∷ ascii "await" ∷ ascii "sampled" ∷ ascii "upto" ∷ ascii "(" ∷ ascii ")" ∷ []
+    ascii "lub" ∷ ascii "glb" ∷ ascii "await" ∷ ascii "sampled" ∷ ascii "upto" ∷ ascii "deferred" ∷ ascii "for" ∷ ascii "(" ∷ ascii ")" ∷ []
 
 -- a letter, then letters, digits or underscores
 unfoldable pub nameShape : Word → Bool
@@ -74,12 +74,18 @@ unfoldable pub isDigits : Word → Bool
 isDigits [] = false
 isDigits (d ∷ ds) = allBytes digit (d ∷ ds)
 
+abbrev pub allDigits : Words → Bool
+allDigits [] = true
+allDigits (n ∷ ns) = isDigits n && allDigits ns
+
 -- ---- forms, over what an operand is
 
--- a right side of clockDef, and a line. The number of an await is the value of its digits, of any size
+-- a right side of clockDef, and a line. The number of an await is the value of its digits, of any size, and so is each of a delay's list, of any
+-- length
 pub data Right (O : Type 0) : Type 0 where
   both : Definition → O → O → Right O
   awaits : ℕ → O → Right O
+  delays : List ℕ → O → O → Right O
 
 pub data Form (O : Type 0) : Type 0 where
   relates : Relation → O → O → Form O
@@ -95,6 +101,7 @@ pub data IsRight {O : Type 0} (Operand : Words → O → Type 0) : Words → Rig
   strictly-sampled : {a b : Words} {x y : O} → Operand a x → Operand b y → IsRight Operand (a ++ ascii "strictly" ∷ ascii "sampled" ∷ b) (both StrictlySampled x y)
   sampled : {a b : Words} {x y : O} → Operand a x → Operand b y → IsRight Operand (a ++ ascii "sampled" ∷ b) (both Sampled x y)
   upto : {a b : Words} {x y : O} → Operand a x → Operand b y → IsRight Operand (a ++ ascii "upto" ∷ b) (both Upto x y)
+  deferred : {a b : Words} (ns : Words) {x y : O} → Operand a x → Operand b y → allDigits ns ≡ true → IsRight Operand (a ++ ascii "deferred" ∷ (b ++ ascii "for" ∷ ns)) (delays (map (value 0) ns) x y)
 
 -- which words are a form
 pub data IsForm {O : Type 0} (Operand : Words → O → Type 0) : Words → Form O → Type 0 where
@@ -111,11 +118,13 @@ pub data Operand : Type 0 where
   name : Word → Operand
   both-inside : Definition → Operand → Operand → Operand
   awaits-inside : ℕ → Operand → Operand
+  delays-inside : List ℕ → Operand → Operand → Operand
 
 -- a right side in parentheses
 abbrev pub inner : Right Operand → Operand
 inner (both k x y) = both-inside k x y
 inner (awaits n x) = awaits-inside n x
+inner (delays ns x y) = delays-inside ns x y
 
 pub data IsOperandOf (Side : Words → Right Operand → Type 0) : Words → Operand → Type 0 where
   one-name : {n : Word} → isName n ≡ true → IsOperandOf Side (n ∷ []) (name n)
@@ -153,6 +162,10 @@ no-name = refl
 an-await : HasForm (ascii "c clockDef await 007 a") (defines (ascii "c") (awaits 7 (name (ascii "a"))))
 unfolding IsOperand parts grow nonempty nameShape oneOf isDigits allBytes sameBytes value
 an-await = clock-def refl (await refl (one-name refl))
+
+a-delay : HasForm (ascii "(a deferred b for 2 03) = c") (relates Coincides (inner (delays (2 ∷ 3 ∷ []) (name (ascii "a")) (name (ascii "b")))) (name (ascii "c")))
+unfolding IsOperand parts grow nonempty nameShape oneOf isDigits allBytes sameBytes value
+a-delay = coincides (in-parentheses (deferred (ascii "2" ∷ ascii "03" ∷ []) (one-name refl) (one-name refl) refl)) (one-name refl)
 
 -- a line of the second course
 a-nested-line : HasForm (ascii "((a clockUnion b)upto c) precedes d")

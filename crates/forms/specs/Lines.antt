@@ -1,5 +1,5 @@
 -- What the lines of a table break, and what they say, apart from any reader: document 01, the first two rows of "Where each refusal is
--- checked", 11 to 18 each a row over the text alone, and document 02's 19 and 20; and the records of a table that breaks nothing. Assumes nothing.
+-- checked", 11 to 18 each a row over the text alone, and document 02's 19, 20 and 22; and the records of a table that breaks nothing. Assumes nothing.
 use mathlib.Core.Path.{_≡_, refl}
 use mathlib.Core.Bool.{Bool, true, false, not, cond, _&&_, _||_}
 use mathlib.Core.List.{List, [], _∷_, _++_, map}
@@ -8,14 +8,15 @@ use lib.Dec.{eqb, ltb, leb}
 use lib.ListN.{length, replicate}
 use Rattle.limit.specs.Limit.{numberOf}
 use Rattle.limit.specs.declared.Limit.{Limit}
-use Rattle.limit.specs.declared.Limit.the-variants.{TableLength, LineByte, NestingDepth, Unpaired, LineForm, NameLength, AwaitNumber, ClockTwice, DefinedTwice, TableClocks, TableConstraints}
+use Rattle.limit.specs.declared.Limit.the-variants.{TableLength, LineByte, NestingDepth, Unpaired, LineForm, NameLength, AwaitNumber, DelayNumber, ClockTwice, DefinedTwice, TableClocks, TableConstraints}
+use Rattle.constraint.specs.Meaning.{packed}
 use Rattle.constraint.specs.declared.Constraint.{Constraint}
-use Rattle.constraint.specs.declared.Definition.the-variants.{Union, Lub, Glb, Await, Upto}
+use Rattle.constraint.specs.declared.Definition.the-variants.{Union, Lub, Glb, Await, Upto, Deferred}
 use Rattle.constraint.specs.declared.Kind.the-variants.{Relates, Defines}
 use Rattle.constraint.specs.declared.Relation.the-variants.{Coincides, Precedes}
 use Rattle.text.specs.Ascii.{ascii}
 use Rattle.text.specs.Bytes.{allBytes, sameBytes}
-use Rattle.forms.specs.Forms.{Word, Words, Line, grow, parts, nonempty, linesOf, wordsOf, oneOf, nameShape, isName, Right, both, awaits, Form, relates, defines, IsForm, Operand, name, both-inside, awaits-inside, inner, IsOperand, HasForm}
+use Rattle.forms.specs.Forms.{Word, Words, Line, grow, parts, nonempty, linesOf, wordsOf, oneOf, nameShape, isName, Right, both, awaits, delays, Form, relates, defines, IsForm, Operand, name, both-inside, awaits-inside, delays-inside, inner, IsOperand, HasForm}
 
 -- ---- what is counted of a line: its names, its pairs of parentheses, and its constraints
 
@@ -63,10 +64,22 @@ abbrev pub operandNumbers : Operand → List ℕ
 operandNumbers (name w) = []
 operandNumbers (both-inside k x y) = operandNumbers x ++ operandNumbers y
 operandNumbers (awaits-inside n x) = n ∷ operandNumbers x
+operandNumbers (delays-inside ns x y) = operandNumbers x ++ operandNumbers y
 
 abbrev pub awaitNumbers : Form Operand → List ℕ
 awaitNumbers (relates k x y) = operandNumbers x ++ operandNumbers y
 awaitNumbers (defines c r) = operandNumbers (inner r)
+
+-- and its lists of delays
+abbrev pub operandLists : Operand → List (List ℕ)
+operandLists (name w) = []
+operandLists (both-inside k x y) = operandLists x ++ operandLists y
+operandLists (awaits-inside n x) = operandLists x
+operandLists (delays-inside ns x y) = operandLists x ++ (operandLists y ++ ns ∷ [])
+
+abbrev pub delayLists : Form Operand → List (List ℕ)
+delayLists (relates k x y) = operandLists x ++ operandLists y
+delayLists (defines c r) = operandLists (inner r)
 
 -- ---- parentheses from left to right, whatever stands between them; k stand open
 
@@ -102,6 +115,12 @@ Filled l = wordsOf l ≡ [] → ⊥
 abbrev pub DefinesClock : Word → Line → Type 0
 DefinesClock c l = (r : Right Operand) × HasForm l (defines c r)
 
+-- a list of delays that is out of range: no number or over eight, or one that is outside 1 to 32
+pub data ListOutside (ns : List ℕ) : Type 0 where
+  no-number : length ns < 1 → ListOutside ns
+  many-numbers : 8 < length ns → ListOutside ns
+  number-outside : Some (λ n. 1 ≤ n → n ≤ 32 → ⊥) ns → ListOutside ns
+
 pub data Breaks (above : List Line) (l : Line) : Limit → Type 0 where
   -- 11 byte outside 32 to 126
   byte-outside : Some (λ b. (leb 32 b && leb b 126) ≡ false) l → Breaks above l LineByte
@@ -115,6 +134,8 @@ pub data Breaks (above : List Line) (l : Line) : Limit → Type 0 where
   long-name : Some (λ n. 16 < length n) (namesIn (wordsOf l)) → Breaks above l NameLength
   -- 14 await number outside 1 to 1,000,000
   await-number : {f : Form Operand} → HasForm l f → Some (λ n. 1 ≤ n → n ≤ 1_000_000 → ⊥) (awaitNumbers f) → Breaks above l AwaitNumber
+  -- 22 a list of delays out of range
+  delay-list : {f : Form Operand} → HasForm l f → Some ListOutside (delayLists f) → Breaks above l DelayNumber
   -- 15 a clock named twice in the line
   name-twice : (a b d : Words) (n : Word) → namesIn (wordsOf l) ≡ a ++ n ∷ (b ++ n ∷ d) → Breaks above l ClockTwice
   -- 16 the clock it defines already defined by an earlier line
@@ -128,7 +149,7 @@ pub data Breaks (above : List Line) (l : Line) : Limit → Type 0 where
 
 -- the checks of a line in their order
 abbrev pub lineChecks : List Limit
-lineChecks = LineByte ∷ NestingDepth ∷ Unpaired ∷ LineForm ∷ NameLength ∷ AwaitNumber ∷ ClockTwice ∷ DefinedTwice ∷ TableClocks ∷ TableConstraints ∷ []
+lineChecks = LineByte ∷ NestingDepth ∷ Unpaired ∷ LineForm ∷ NameLength ∷ AwaitNumber ∷ DelayNumber ∷ ClockTwice ∷ DefinedTwice ∷ TableClocks ∷ TableConstraints ∷ []
 
 -- how many of some checks come before one
 abbrev pub turnIn : List Limit → Limit → ℕ
@@ -172,10 +193,12 @@ abbrev pub implicits : Operand → ℕ
 implicits (name w) = 0
 implicits (both-inside k x y) = suc (implicits x + implicits y)
 implicits (awaits-inside n x) = suc (implicits x)
+implicits (delays-inside ns x y) = suc (implicits x + implicits y)
 
 abbrev pub sideImplicits : Right Operand → ℕ
 sideImplicits (both k x y) = implicits x + implicits y
 sideImplicits (awaits n x) = implicits x
+sideImplicits (delays ns x y) = implicits x + implicits y
 
 abbrev pub formImplicits : Form Operand → ℕ
 formImplicits (relates k x y) = implicits x + implicits y
@@ -188,21 +211,25 @@ module _ (ns : Words) (from n : ℕ) where
   clockOf k (name w) = standing ns w
   clockOf k (both-inside d x y) = from + (k + (implicits x + implicits y))
   clockOf k (awaits-inside m x) = from + (k + implicits x)
+  clockOf k (delays-inside ms x y) = from + (k + (implicits x + implicits y))
 
   -- the record of a right side that defines the clock c
   abbrev pub sideRecord : (k c : ℕ) → Right Operand → Constraint
   sideRecord k c (both d x y) = record { kind = Defines d; defined = c; first = clockOf k x; second = clockOf (k + implicits x) y; parameter = record { 0 = 0 }; line = record { 0 = n } }
   sideRecord k c (awaits m x) = record { kind = Defines Await; defined = c; first = clockOf k x; second = 0; parameter = record { 0 = m }; line = record { 0 = n } }
+  sideRecord k c (delays ms x y) = record { kind = Defines Deferred; defined = c; first = clockOf k x; second = clockOf (k + implicits x) y; parameter = record { 0 = packed ms }; line = record { 0 = n } }
 
   -- the definitions of an operand's implicit clocks: left before right, inner before outer
   abbrev pub operandRecords : (k : ℕ) → Operand → List Constraint
   operandRecords k (name w) = []
   operandRecords k (both-inside d x y) = (operandRecords k x ++ operandRecords (k + implicits x) y) ++ sideRecord k (clockOf k (both-inside d x y)) (both d x y) ∷ []
   operandRecords k (awaits-inside m x) = operandRecords k x ++ sideRecord k (clockOf k (awaits-inside m x)) (awaits m x) ∷ []
+  operandRecords k (delays-inside ms x y) = (operandRecords k x ++ operandRecords (k + implicits x) y) ++ sideRecord k (clockOf k (delays-inside ms x y)) (delays ms x y) ∷ []
 
   abbrev pub sideRecords : (k : ℕ) → Right Operand → List Constraint
   sideRecords k (both d x y) = operandRecords k x ++ operandRecords (k + implicits x) y
   sideRecords k (awaits m x) = operandRecords k x
+  sideRecords k (delays ms x y) = operandRecords k x ++ operandRecords (k + implicits x) y
 
   -- those of a form, and its own behind them
   abbrev pub formRecords : (k : ℕ) → Form Operand → List Constraint

@@ -12,16 +12,18 @@ use Rattle.text.specs.declared.Span.{Span}
 use Rattle.constraint.specs.declared.Definition.the-variants.{Await as AwaitKind}
 use Rattle.constraint.specs.declared.Kind.{Kind}
 use Rattle.constraint.specs.declared.Kind.the-variants.{Defines}
-use Rattle.grammar.specs.Answers.{FirstWord, operandRead, formRead}
+use Rattle.constraint.specs.declared.Parameter.{Parameter}
+use Rattle.grammar.specs.Answers.{FirstWord, operandRead, formRead, tailRead}
 use Rattle.grammar.specs.Building.{defining, provisional, withImplicit}
-use Rattle.grammar.specs.Grammar.{Parsed, noForm, parsed, andThen, onlyIf, Placed, Formed, Kinded, Operands, lineWords, token, clockAt, name, kindAt, strictKind, plain, isKind, sides, second, pair, awaitNumber, awaitSide, expression, isSide, inner, operand, atEnd, closed, lineForm}
+use Rattle.grammar.specs.Grammar.{Parsed, noForm, parsed, andThen, onlyIf, Placed, Formed, Kinded, Operands, lineWords, token, clockAt, name, kindAt, strictKind, plain, isKind, sides, delayList, pastDigits, isDelay, tail, second, pair, awaitNumber, awaitSide, expression, isSide, inner, operand, atEnd, closed, lineForm}
 use Rattle.grammar.specs.Tokens.{is, shapeOf, lookUp, tokenOf}
 use Rattle.grammar.specs.declared.FormRead.{FormRead}
 use Rattle.grammar.specs.declared.Inner.{Inner}
 use Rattle.grammar.specs.declared.Names.{Names}
 use Rattle.grammar.specs.declared.OperandRead.{OperandRead}
+use Rattle.grammar.specs.declared.TailRead.{TailRead}
 use Rattle.grammar.specs.declared.Token.{Token}
-use Rattle.grammar.specs.declared.Token.the-variants.{End, Name, Digits, ClockDef, Await, Strictly, Open, Close}
+use Rattle.grammar.specs.declared.Token.the-variants.{End, Name, Digits, ClockDef, Await, Strictly, Open, Close, For}
 use Rattle.grammar.specs.declared.WordRead.{WordRead}
 use Rattle.grammar.proofs.TokenLaws.{told-apart}
 
@@ -96,6 +98,12 @@ module _ (t : List ℕ) where
   pub form-is : (r : FormRead) → r .fits ≡ true → formRead t r ≡ parsed (record { left = r .inner; constraint = r .constraint }) (lineWords t (r .at))
   form-is r e = only (r .fits) _ e
 
+  pub tail-miss : (r : TailRead) → r .fits ≡ false → tailRead t r ≡ noForm
+  tail-miss r e = not-only (r .fits) _ e
+
+  pub tail-is : (r : TailRead) → r .fits ≡ true → tailRead t r ≡ parsed (r .parameter) (lineWords t (r .at))
+  tail-is r e = only (r .fits) _ e
+
   -- ---- names and kinds
   module _ (ws : List Span) where
     module _ {S : Type 0} (ns : Names) (s : S) where
@@ -128,6 +136,21 @@ module _ (t : List ℕ) where
     pub kind-read-two : (v : WordRead) → FirstWord t (w .span .end) v → (k : Kind) → is Strictly (w .token) ≡ true → k ≡ strictKind (plain (v .token))
         → _≡_ {A = Kinded} (record { kind = k; after = lineWords t (v .span .end) }) (kindAt t (lineWords t at))
     kind-read-two v g k e q = rw (kind-two (lineWords t at) (word-token at w f Strictly true e), q, after-second at w f v g, second-is at w f v g)
+
+  -- ---- behind two operands
+  module _ (k : Kind) (ws : List Span) where
+    pub tail-none : isDelay k ≡ false → tail t k ws ≡ parsed (record { 0 = 0 }) ws
+    unfolding tail
+    tail-none e = rw e
+
+    module _ (e : isDelay k ≡ true) where
+      pub tail-not : is For (token t ws) ≡ false → tail t k ws ≡ noForm
+      unfolding tail
+      tail-not f = rw e (not-only _ _ f)
+
+      pub tail-list : is For (token t ws) ≡ true → tail t k ws ≡ parsed (record { 0 = delayList t (rest ws) }) (pastDigits t (rest ws))
+      unfolding tail
+      tail-list f = rw e (only _ _ f)
 
   -- ---- forms
   module _ {S : Type 0} (operands : Operands S) (s : S) (ws : List Span) where
@@ -166,9 +189,16 @@ module _ (t : List ℕ) where
           pub pair-second : operands (a .left) (k .after) ≡ noForm → expression t operands s ws ≡ noForm
           pair-second g = first ∙ (unfold second in (only _ _ f ∙ then-none _ _ g))
 
-          pub pair-some : (c : Placed S) (vs : List Span) → operands (a .left) (k .after) ≡ parsed c vs
-              → expression t operands s ws ≡ parsed (record { left = c .left; constraint = sides (k .kind) (a .clock) (c .clock) (record { 0 = 0 }) }) vs
-          pair-some c vs g = first ∙ (unfold second in (only _ _ f ∙ then-some _ _ c vs g))
+          module _ (c : Placed S) (xs : List Span) (g : operands (a .left) (k .after) ≡ parsed c xs) where
+            both : expression t operands s ws ≡ andThen (tail t (k .kind) xs) (λ n vs. parsed (record { left = c .left; constraint = sides (k .kind) (a .clock) (c .clock) n }) vs)
+            both = first ∙ (unfold second in (only _ _ f ∙ then-some _ _ c xs g))
+
+            pub pair-tail : tail t (k .kind) xs ≡ noForm → expression t operands s ws ≡ noForm
+            pair-tail h = both ∙ then-none _ _ h
+
+            pub pair-some : (n : Parameter) (vs : List Span) → tail t (k .kind) xs ≡ parsed n vs
+                → expression t operands s ws ≡ parsed (record { left = c .left; constraint = sides (k .kind) (a .clock) (c .clock) n }) vs
+            pair-some n vs h = both ∙ then-some _ _ n vs h
 
     module _ (clock : Span → ℕ) where
       pub line-defines : (is Name (token t ws) && is ClockDef (token t (rest ws))) ≡ true → lineForm t clock operands s ws ≡ closed true (clock (front t ws)) (expression t operands s (rest (rest ws)))

@@ -1,6 +1,6 @@
 -- No word but `await` says that a constraint is an await: the kind that stands between two operands is none. Assumes nothing.
 use mathlib.Core.Path.{_≡_, refl}
-use mathlib.Core.Bool.{Bool, true, false, cond}
+use mathlib.Core.Bool.{Bool, true, false, cond, _||_}
 use mathlib.Core.List.{List}
 use Prim.Native.Nat.{ℕ}
 use Rattle.constraint.specs.declared.Definition.the-variants.{Union, Inter, Lub, Glb, Await as AwaitKind, StrictlySampled, Sampled, Upto, Deferred}
@@ -10,7 +10,7 @@ use Rattle.constraint.specs.declared.Relation.the-variants.{Coincides, Excludes
 use Rattle.constraint.proofs.Named.{arity, paired}
 use Rattle.text.specs.Split.{bytesOf, front, rest}
 use Rattle.text.specs.declared.Span.{Span}
-use Rattle.grammar.specs.Grammar.{token, strictKind, plain, Kinded, kindAt}
+use Rattle.grammar.specs.Grammar.{token, strictKind, plain, Kinded, kindAt, isDeferred}
 use Rattle.grammar.specs.Tokens.{is, formWords, tokenOf}
 use Rattle.grammar.specs.declared.Token.the-variants.{Strictly}
 use Rattle.grammar.proofs.TokenLaws.{look-all, shape-all}
@@ -18,7 +18,7 @@ use Rattle.grammar.proofs.TokenLaws.{look-all, shape-all}
 unfoldable pub notAwait : Kind → Bool
 notAwait Empty = true
 notAwait (Relates k) = true
-notAwait (Defines k) = paired (arity k)
+notAwait (Defines k) = paired (arity k) || isDeferred k
 
 token-plain : (w : List ℕ) → notAwait (plain (tokenOf w)) ≡ true
 unfolding notAwait

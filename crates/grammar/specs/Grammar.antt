@@ -1,10 +1,12 @@
 -- The forms of a line, as readers of its words: what stands at their front, and the words after it (document 01, "Table text"; document 02,
--- M-101). Every reader of a form takes the reader of operands, and hands on what operands leave for the next one, of any type S; the reader of
+-- M-101 and M-105). Every reader of a form takes the reader of operands, and hands on what operands leave for the next one, of any type S; the reader of
 -- operands reads a name, or a right side in parentheses with one level less. t is the text up to the line's end. Assumes nothing.
 use mathlib.Core.Bool.{Bool, true, false, not, cond, _&&_}
 use mathlib.Core.List.{List, [], _∷_}
 use Prim.Native.Nat.{ℕ, zero, suc}
 use lib.Dec.{leb}
+use lib.ListN.{length}
+use Rattle.constraint.specs.Meaning.{packed}
 use Rattle.constraint.specs.declared.Constraint.{Constraint}
 use Rattle.constraint.specs.declared.Definition.{Definition}
 use Rattle.constraint.specs.declared.Definition.the-variants.{Union, Inter, Lub, Glb, Await as AwaitKind, StrictlySampled, Sampled, Upto, Deferred}
@@ -27,7 +29,7 @@ use Rattle.grammar.specs.declared.Found.the-variants.{At, Nothing}
 use Rattle.grammar.specs.declared.Inner.{Inner}
 use Rattle.grammar.specs.declared.Names.{Names}
 use Rattle.grammar.specs.declared.Token.{Token}
-use Rattle.grammar.specs.declared.Token.the-variants.{End, Other, Name, Digits, ClockDef, Await, Strictly, Form, Open, Close}
+use Rattle.grammar.specs.declared.Token.the-variants.{End, Other, Name, Digits, ClockDef, Await, Strictly, Form, Open, Close, For}
 
 -- the words of a line: parted by one or more spaces
 abbrev pub lineWords : List ℕ → ℕ → List Span
@@ -114,6 +116,7 @@ plain Strictly = Empty
 plain (Form k) = k
 plain Open = Empty
 plain Close = Empty
+plain For = Empty
 
 -- a kind that was read, and the words after it
 pub record Kinded : Type 0 where
@@ -133,24 +136,78 @@ isKind (Defines k) = true
 
 -- ---- forms, over the reader of operands
 
--- the number of an await is the value of its digits; 0 stands for one above 1,000,000
-abbrev pub upToMillion : Number → ℕ
-upToMillion NotDigits = 0
-upToMillion TooLarge = 0
-upToMillion (Value n) = cond (leb n 1_000_000) n 0
+-- a number is the value of its digits; 0 stands for one above the most that there may be
+abbrev pub upTo : (most : ℕ) → Number → ℕ
+upTo most NotDigits = 0
+upTo most TooLarge = 0
+upTo most (Value n) = cond (leb n most) n 0
 
+abbrev pub numberUpTo : (most : ℕ) → List ℕ → ℕ
+numberUpTo most ds = upTo most (number ds)
+
+-- the number of an await
 abbrev pub awaitNumber : List ℕ → ℕ
-awaitNumber ds = upToMillion (number ds)
+awaitNumber ds = numberUpTo 1_000_000 ds
 
 abbrev pub sides : Kind → (first second : ℕ) → Parameter → Constraint
 sides k a b n = record { kind = k; defined = 0; first = a; second = b; parameter = n; line = record { 0 = 0 } }
 
+-- ---- the list of a delay: the digit runs behind `for`, up to the first other word
+
+unfoldable pub delayNumbers : List ℕ → List Span → List ℕ
+delayNumbers t [] = []
+delayNumbers t (w ∷ ws) = cond (is Digits (tokenOf (bytesOf t w))) (numberUpTo 32 (bytesOf t w) ∷ delayNumbers t ws) []
+
+-- the words behind it
+unfoldable pub pastDigits : List ℕ → List Span → List Span
+pastDigits t [] = []
+pastDigits t (w ∷ ws) = cond (is Digits (tokenOf (bytesOf t w))) (pastDigits t ws) (w ∷ ws)
+
+-- one to eight numbers, each 1 to 32
+abbrev pub allDelays : List ℕ → Bool
+allDelays [] = true
+allDelays (n ∷ ns) = (leb 1 n && leb n 32) && allDelays ns
+
+abbrev pub isList : List ℕ → Bool
+isList ns = (leb 1 (length ns) && leb (length ns) 8) && allDelays ns
+
+-- as it is kept; 0 stands for one that is out of range
+abbrev pub listed : List ℕ → ℕ
+listed ns = cond (isList ns) (packed ns) 0
+
+abbrev pub delayList : List ℕ → List Span → ℕ
+delayList t ws = listed (delayNumbers t ws)
+
+abbrev pub isDeferred : Definition → Bool
+isDeferred Union = false
+isDeferred Inter = false
+isDeferred Lub = false
+isDeferred Glb = false
+isDeferred AwaitKind = false
+isDeferred StrictlySampled = false
+isDeferred Sampled = false
+isDeferred Upto = false
+isDeferred Deferred = true
+
+abbrev pub isDelay : Kind → Bool
+isDelay Empty = false
+isDelay (Relates k) = false
+isDelay (Defines k) = isDeferred k
+
+-- what stands behind two operands with a kind between them: of a delay `for` and its list, else nothing
+unfoldable pub tail : List ℕ → Kind → List Span → Parsed Parameter
+tail t k ws =
+    cond (isDelay k)
+    (onlyIf (is For (token t ws)) (parsed (record { 0 = delayList t (rest ws) }) (pastDigits t (rest ws))))
+    (parsed (record { 0 = 0 }) ws)
+
 module _ {S : Type 0} (t : List ℕ) (operands : Operands S) where
-  -- the second operand of a pair whose first is a
+  -- the second operand of a pair whose first is a, and what stands behind it
   unfoldable pub second : Kinded → Placed S → Parsed (Formed S)
   second k a =
       onlyIf (isKind (k .kind))
-      (andThen (operands (a .left) (k .after)) (λ b ws. parsed (record { left = b .left; constraint = sides (k .kind) (a .clock) (b .clock) (record { 0 = 0 }) }) ws))
+      (andThen (operands (a .left) (k .after)) (λ b us.
+      andThen (tail t (k .kind) us) (λ n ws. parsed (record { left = b .left; constraint = sides (k .kind) (a .clock) (b .clock) n }) ws)))
 
   -- two operands with a kind between them
   unfoldable pub pair : S → List Span → Parsed (Formed S)

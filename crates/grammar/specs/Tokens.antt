@@ -4,14 +4,14 @@ use mathlib.Core.Bool.{Bool, cond, _&&_}
 use mathlib.Core.List.{List, [], _∷_}
 use Prim.Native.Nat.{ℕ}
 use lib.Dec.{eqb}
-use Rattle.constraint.specs.declared.Definition.the-variants.{Union, Inter, Lub, Glb, Sampled, Upto}
+use Rattle.constraint.specs.declared.Definition.the-variants.{Union, Inter, Lub, Glb, Sampled, Upto, Deferred}
 use Rattle.constraint.specs.declared.Kind.the-variants.{Relates, Defines}
 use Rattle.constraint.specs.declared.Relation.the-variants.{Coincides, Excludes, SubClock, Precedes}
 use Rattle.text.specs.Ascii.{ascii}
 use Rattle.text.specs.Bytes.{letter, digit, inClass, allBytes, sameBytes}
 use Rattle.text.specs.declared.Class.the-variants.{NameByte}
 use Rattle.grammar.specs.declared.Token.{Token}
-use Rattle.grammar.specs.declared.Token.the-variants.{End, Other, Name, Digits, ClockDef, Await, Strictly, Form, Open, Close}
+use Rattle.grammar.specs.declared.Token.the-variants.{End, Other, Name, Digits, ClockDef, Await, Strictly, Form, Open, Close, For}
 
 -- the place of a token among its kind, by which two are compared
 abbrev pub tag : Token → ℕ
@@ -25,6 +25,7 @@ tag Strictly = 6
 tag (Form k) = 7
 tag Open = 8
 tag Close = 9
+tag For = 10
 
 abbrev pub is : Token → Token → Bool
 is a b = eqb (tag a) (tag b)
@@ -38,12 +39,18 @@ infix 68 _says_
 abbrev pub _says_ : List ℕ → Token → Spelled
 w says t = record { bytes = w; token = t }
 
--- the words of the forms, each once; the parentheses of an operand (document 02, M-101)
+-- the words of the forms, each once; the parentheses of an operand (document 02, M-101) and the words of a delay (M-105)
 abbrev pub parentheses : List Spelled
 parentheses =
     ascii "(" says Open ∷
     ascii ")" says Close ∷
     []
+
+abbrev pub delayWords : List Spelled
+delayWords =
+    ascii "deferred" says Form (Defines Deferred) ∷
+    ascii "for" says For ∷
+    parentheses
 
 abbrev pub definitionWords : List Spelled
 definitionWords =
@@ -54,7 +61,7 @@ definitionWords =
     ascii "sampled" says Form (Defines Sampled) ∷
     ascii "upto" says Form (Defines Upto) ∷
     ascii "await" says Await ∷
-    parentheses
+    delayWords
 
 abbrev pub formWords : List Spelled
 formWords =

@@ -1,8 +1,9 @@
 // A line of a table: its words told apart, the names of clocks with their numbers, the table so far, and the forms of a line as readers of
-// its words (document 01, "Table text"; document 02, M-101).
+// its words (document 01, "Table text"; document 02, M-101 and M-105).
 
 mod building;
 mod line;
+mod list;
 mod naming;
 mod words;
 
@@ -14,8 +15,9 @@ pub use building::with_line;
 use constraint::Constraint;
 use constraint::Kind;
 use constraint::Parameter;
-pub use line::await_number;
 pub use line::line_form;
+pub use list::delay_list;
+pub use list::number_up_to;
 pub use naming::find_name;
 pub use naming::with_words;
 use text::Span;
@@ -34,6 +36,7 @@ pub enum Token {
     Form(Kind),
     Open,
     Close,
+    For,
 }
 
 // The first word of a line from an offset on, and what it is; the empty one where there is none.
@@ -100,6 +103,26 @@ pub struct OperandRead {
 pub struct KindRead {
     pub kind: Kind,
     pub at: usize,
+}
+
+// A list of delays that is being read: as it is kept, how many numbers it has, and whether it is one so far.
+pub struct Listing {
+    pub list: u64,
+    pub count: u8,
+    pub good: bool,
+}
+
+// What the reader of a list of delays answers: the list as it is kept, 0 where it is out of range, and where it ends.
+pub struct ListRead {
+    pub list: u64,
+    pub at: usize,
+}
+
+// What the reader of what stands behind two operands answers: whether it fits, where it ends, and the list of a delay.
+pub struct TailRead {
+    pub fits: bool,
+    pub at: usize,
+    pub parameter: Parameter,
 }
 
 // What the reader of a form answers: whether it fits, where it ends, its constraint, and the implicit clocks with those in it.

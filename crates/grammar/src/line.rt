@@ -6,10 +6,13 @@ use super::Inner;
 use super::KindRead;
 use super::Names;
 use super::OperandRead;
+use super::TailRead;
 use super::Token;
 use super::WordRead;
 use super::building::provisional;
 use super::building::with_implicit;
+use super::list::delay_list;
+use super::list::number_up_to;
 use super::naming::find_name;
 use super::words::is;
 use super::words::word_at;
@@ -20,7 +23,6 @@ use constraint::Parameter;
 use constraint::Relation;
 use limit::Place;
 use text::Class;
-use text::Number;
 use text::Span;
 ghost use mathlib.Core.Path.{_≡_};
 ghost use mathlib.Core.Bool.{false};
@@ -117,6 +119,7 @@ fn plain(token: Token) -> Kind
         Token::Form(kind) => kind,
         Token::Open => Kind::Empty,
         Token::Close => Kind::Empty,
+        Token::For => Kind::Empty,
     }
 }
 
@@ -187,23 +190,62 @@ fn no_form(inner: Inner) -> FormRead
     }
 }
 
-// The number of an await, 0 where it is not 1 to 1,000,000.
-pub fn await_number(digits: &[u8]) -> u64
-    ensures { λ r. ⌜ r ≡ g.awaitNumber (now (digits .entry)) ⌝ }
+// Whether a definition is a delay.
+fn is_deferred(k: Definition) -> bool
+    ensures { λ r. ⌜ r ≡ g.isDeferred k ⌝ }
 {
-    match text::decimal(digits) {
-        Number::NotDigits => 0,
-        Number::TooLarge => 0,
-        Number::Value(n) => {
-            if n <= 1000000 {
-                return n;
-            }
-            0
-        }
+    match k {
+        Definition::Union => false,
+        Definition::Inter => false,
+        Definition::Lub => false,
+        Definition::Glb => false,
+        Definition::Await => false,
+        Definition::StrictlySampled => false,
+        Definition::Sampled => false,
+        Definition::Upto => false,
+        Definition::Deferred => true,
     }
 }
 
-// A right side: a number and an operand behind `await`, or two operands with a kind between them. Of a pair, an operand that is a
+// Whether a kind is a delay.
+fn is_delay(kind: Kind) -> bool
+    ensures { λ r. ⌜ r ≡ g.isDelay kind ⌝ }
+{
+    match kind {
+        Kind::Empty => false,
+        Kind::Relates(_) => false,
+        Kind::Defines(k) => is_deferred(k),
+    }
+}
+
+// What stands behind two operands: of a delay `for` and its list, else nothing.
+fn tail(line: &[u8], kind: Kind, at: usize) -> TailRead
+    ensures { λ r. ⌜ a.tailRead (now (line .entry)) r ≡ g.tail (now (line .entry)) kind (g.lineWords (now (line .entry)) at) ⌝ }
+{
+    if !is_delay(kind) {
+        return TailRead {
+            fits: true,
+            at,
+            parameter: Parameter(0),
+        };
+    }
+    let word = word_at(line, at);
+    if !is(Token::For, word) {
+        return TailRead {
+            fits: false,
+            at: 0,
+            parameter: Parameter(0),
+        };
+    }
+    let read = delay_list(line, word.span.end);
+    TailRead {
+        fits: true,
+        at: read.at,
+        parameter: Parameter(read.list),
+    }
+}
+
+// A right side: a number and an operand behind `await`, or two operands with a kind between them, of a delay with its list behind them. Of a pair, an operand that is a
 // name is read here, since a call would copy the implicit clocks.
 fn expression(line: &[u8], names: Names, inner: Inner, at: usize, level: usize) -> FormRead
     ensures { λ r. ⌜ a.formRead (now (line .entry)) r ≡ g.expression (now (line .entry)) (g.operand (now (line .entry)) names level) inner (g.lineWords (now (line .entry)) at) ⌝ }
@@ -220,7 +262,7 @@ fn expression(line: &[u8], names: Names, inner: Inner, at: usize, level: usize) 
             return no_form(left);
         }
         let digits = number.span;
-        let n = await_number(text::part(line, digits));
+        let n = number_up_to(1000000, text::part(line, digits));
         return FormRead {
             fits: true,
             at: awaited.at,
@@ -256,10 +298,15 @@ fn expression(line: &[u8], names: Names, inner: Inner, at: usize, level: usize) 
     let next = word_at(line, read.at);
     if is(Token::Name, next) {
         let span = next.span;
+        let behind = tail(line, kind, span.end);
+        if !behind.fits {
+            return no_form(between);
+        }
+        let n = behind.parameter;
         return FormRead {
             fits: true,
-            at: span.end,
-            constraint: sides(kind, first.clock, clock_at(line, names, span), Parameter(0)),
+            at: behind.at,
+            constraint: sides(kind, first.clock, clock_at(line, names, span), n),
             inner: between,
         };
     }
@@ -268,10 +315,15 @@ fn expression(line: &[u8], names: Names, inner: Inner, at: usize, level: usize) 
     if !second.fits {
         return no_form(left);
     }
+    let behind = tail(line, kind, second.at);
+    if !behind.fits {
+        return no_form(left);
+    }
+    let n = behind.parameter;
     FormRead {
         fits: true,
-        at: second.at,
-        constraint: sides(kind, first.clock, second.clock, Parameter(0)),
+        at: behind.at,
+        constraint: sides(kind, first.clock, second.clock, n),
         inner: left,
     }
 }

@@ -41,6 +41,19 @@ fn parenthesis(word: &[u8]) -> Token
     shape(word)
 }
 
+// The words of a delay, parentheses, and shapes.
+fn delay_word(word: &[u8]) -> Token
+    ensures { λ r. ⌜ r ≡ t.lookUp (now (word .entry)) t.delayWords ⌝ }
+{
+    if text::same_bytes(word, b"deferred") {
+        return Token::Form(Kind::Defines(Definition::Deferred));
+    }
+    if text::same_bytes(word, b"for") {
+        return Token::For;
+    }
+    parenthesis(word)
+}
+
 // The words of the right sides of clockDef, parentheses, and shapes.
 fn definition_word(word: &[u8]) -> Token
     ensures { λ r. ⌜ r ≡ t.lookUp (now (word .entry)) t.definitionWords ⌝ }
@@ -66,7 +79,7 @@ fn definition_word(word: &[u8]) -> Token
     if text::same_bytes(word, b"await") {
         return Token::Await;
     }
-    parenthesis(word)
+    delay_word(word)
 }
 
 // What a word is.
@@ -120,6 +133,7 @@ fn tag(token: Token) -> u8
         Token::Form(_) => 7,
         Token::Open => 8,
         Token::Close => 9,
+        Token::For => 10,
     }
 }
 

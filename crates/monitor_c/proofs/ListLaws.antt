@@ -1,17 +1,19 @@
 -- Elements that are stored one behind the other: `sets` stores a list from a place on. Assumes nothing.
 use mathlib.Core.Path.{_≡_, refl, sym, ap, _∙_}
 use mathlib.Core.List.{List, [], _∷_, _++_, map, append-nil}
-use Prim.Native.Nat.{ℕ, zero, suc, _+_, _*_, _≤_, _<_}
+use Prim.Native.Nat.{ℕ, suc, _+_, _*_, _≤_, _<_}
 use native.Mathlib.Nat.{zero-add}
 use native.Mathlib.Numerals.{add-one}
 use native.Mathlib.Omega.{arith}
+use lib.IntN.{ℤ, pos}
 use lib.ListN.{length, drop, take, getD, set, take-append-drop}
 use lib.Seq.{sets, sets-eq, set-out, length-take-le, length-sets, drop-length}
-use Rattle.text.specs.declared.Span.{Span}
 use Rattle.text.proofs.Bytes.{drop-next}
+use Rattle.constraint.specs.Pairs.{paired}
 use Rattle.constraint.specs.declared.Constraint.{Constraint}
+use Rattle.constraint.specs.declared.Word.{Word}
 use Rattle.monitor_c.specs.Calls.{written}
-use Rattle.monitor_c.specs.Numbers.{recordNumbers, nameNumbers}
+use Rattle.monitor_c.specs.Numbers.{recordNumbers, twos, pairs}
 
 -- stored from the first place on, elements for which there is room are written
 pub sets-written : {A : Type 0} (vs xs : List A) → length vs ≤ length xs → sets xs 0 vs ≡ written vs xs
@@ -42,29 +44,37 @@ pub store-on : {A B : Type 0} (f : A → B) (vs : List A) (xs : List B) (i : ℕ
     → sets xs i (map f (drop i vs)) ≡ sets (set xs i (f (getD vs i d))) (i + 1) (map f (drop (i + 1) vs))
 store-on f vs xs i d inside = rw (drop-next vs i d inside, add-one i) refl
 
--- six places a record
+-- eight places a record
 pub records-on : (rs : List Constraint) (xs : List ℕ) (i : ℕ) (d : Constraint) → i < length rs
-    → sets xs (6 * i) (recordNumbers (drop i rs)) ≡ sets (sets xs (6 * i) (recordNumbers (getD rs i d ∷ []))) (6 * (i + 1)) (recordNumbers (drop (i + 1) rs))
+    → sets xs (8 * i) (recordNumbers (drop i rs)) ≡ sets (sets xs (8 * i) (recordNumbers (getD rs i d ∷ []))) (8 * (i + 1)) (recordNumbers (drop (i + 1) rs))
 records-on rs xs i d inside =
-    let e : 6 * (i + 1) ≡ suc (suc (suc (suc (suc (suc (6 * i)))))) = omega arith in
+    let e : 8 * (i + 1) ≡ suc (suc (suc (suc (suc (suc (suc (suc (8 * i)))))))) = omega arith in
     rw (drop-next rs i d inside, e) refl
 
--- two places a name
-pub names-on : (ps : List Span) (xs : List ℕ) (i : ℕ) (d : Span) → i < length ps
-    → sets xs (2 * i) (nameNumbers (drop i ps)) ≡ sets (set (set xs (2 * i) (getD ps i d .start)) (2 * i + 1) (getD ps i d .end)) (2 * (i + 1)) (nameNumbers (drop (i + 1) ps))
-names-on ps xs i d inside =
-    let e : 2 * (i + 1) ≡ suc (suc (2 * i)) = omega arith in
-    rw (drop-next ps i d inside, e, add-one (2 * i)) refl
-
-pub map-take : {A B : Type 0} (f : A → B) (n : ℕ) (xs : List A) → map f (take n xs) ≡ take n (map f xs)
-map-take f zero xs = refl
-map-take f (suc n) [] = refl
-map-take f (suc n) (x ∷ xs) = ap (λ ys. f x ∷ ys) (map-take f n xs)
-
-pub length-records : (rs : List Constraint) → length (recordNumbers rs) ≡ 6 * length rs
+pub length-records : (rs : List Constraint) → length (recordNumbers rs) ≡ 8 * length rs
 length-records [] = refl
 length-records (r ∷ rs) = omega (arith, length-records rs)
 
-pub length-names : (ps : List Span) → length (nameNumbers ps) ≡ 2 * length ps
-length-names [] = refl
-length-names (p ∷ ps) = omega (arith, length-names ps)
+-- two places a name, and two a record's words
+module _ {A B : Type 0} (f g : A → B) where
+  pub twos-on : (vs : List A) (xs : List B) (i : ℕ) (d : A) → i < length vs
+      → sets xs (2 * i) (twos f g (drop i vs)) ≡ sets (set (set xs (2 * i) (f (getD vs i d))) (2 * i + 1) (g (getD vs i d))) (2 * (i + 1)) (twos f g (drop (i + 1) vs))
+  twos-on vs xs i d inside =
+      let e : 2 * (i + 1) ≡ suc (suc (2 * i)) = omega arith in
+      rw (drop-next vs i d inside, e, add-one (2 * i)) refl
+
+  pub length-twos : (vs : List A) → length (twos f g vs) ≡ 2 * length vs
+  length-twos [] = refl
+  length-twos (v ∷ vs) = omega (arith, length-twos vs)
+
+-- two words that are read are one element
+pub pairs-on : (ws : List ℤ) (xs : List Word) (i : ℕ) → 2 * i + 2 ≤ length ws
+    → sets xs i (pairs (drop (2 * i) ws)) ≡ sets (set xs i (paired (getD ws (2 * i) (pos 0)) (getD ws (2 * i + 1) (pos 0)))) (i + 1) (pairs (drop (2 * (i + 1)) ws))
+pairs-on ws xs i room =
+    let e : 2 * (i + 1) ≡ 2 * i + 1 + 1 = omega arith in
+    rw (drop-next ws (2 * i) (pos 0) (omega arith), drop-next ws (2 * i + 1) (pos 0) (omega arith), e, add-one i) refl
+
+pub many-pairs : (ws : List ℤ) → length ws < 2 * length (pairs ws) + 2
+many-pairs [] = omega arith
+many-pairs (w ∷ []) = omega arith
+many-pairs (w ∷ v ∷ ws) = omega (arith, many-pairs ws)

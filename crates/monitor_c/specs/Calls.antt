@@ -21,6 +21,12 @@ use Rattle.monitor_c.specs.declared.AnswerNumbers.{AnswerNumbers}
 abbrev pub written : {A : Type 0} → List A → List A → List A
 written vs xs = vs ++ drop (length vs) xs
 
+-- ---- ccsl_layout
+
+-- that of eight numbers a record and 128 words; layout 1 was six numbers a record and 64 words
+abbrev pub layout : ℕ
+layout = 2
+
 -- ---- the status of a call
 
 abbrev pub done : ℕ
@@ -52,7 +58,7 @@ choiceInvalid = 8
 
 -- the numbers of `records` do not come in rows
 abbrev pub ragged : List ℕ → Bool
-ragged ns = not (eqb (length ns % 6) 0)
+ragged ns = not (eqb (length ns % 8) 0)
 
 abbrev pub short : {A : Type 0} → List A → ℕ → Bool
 short xs n = ltb (length xs) n
@@ -75,7 +81,7 @@ runLeft t out ws =
 unfoldable pub runInto : (table recording : List ℕ) → (unknown : ℕ) → (answer : List ℕ) → (words : List ℤ) → Left
 runInto t r u out ws =
     cond (short out 5) (left answerShort out ws)
-    (cond (short ws 64) (left wordsShort out ws)
+    (cond (short ws 128) (left wordsShort out ws)
     (cond (ltb unknownIgnored u) (left choiceInvalid out ws)
     (runLeft (run.runOf t r (unknownOf u)) out ws)))
 
@@ -101,7 +107,7 @@ readLeft t out rs ns =
 unfoldable pub readInto : (text : List ℕ) → (answer records names : List ℕ) → TableLeft
 readInto t out rs ns =
     cond (short out 6) (tableLeft answerShort out rs ns)
-    (cond (short rs 384) (tableLeft recordsShort out rs ns)
+    (cond (short rs 512) (tableLeft recordsShort out rs ns)
     (cond (short ns 64) (tableLeft namesShort out rs ns)
     (readLeft (table.readTable t) out rs ns)))
 
@@ -111,23 +117,29 @@ readInto t out rs ns =
 unfoldable pub onRecords : (records answer : List ℕ) → (words : List ℤ) → Left → Left
 onRecords ns out ws l =
     cond (short out 3) (left answerShort out ws)
-    (cond (short ws 64) (left wordsShort out ws)
+    (cond (short ws 128) (left wordsShort out ws)
     (cond (ragged ns) (left recordsRagged out ws)
     (cond (not (kindsKnown ns)) (left kindUnknown out ws)
     l)))
 
--- an answer and a configuration, which stands where the words stood
-abbrev pub answeredLeft : AnswerNumbers → Configuration → List ℕ → List ℤ → Left
-answeredLeft t c out ws = left done (written (answerAnd t []) out) (written (wordNumbers c) ws)
+-- an answer, and what the words then are
+abbrev pub answeredLeft : AnswerNumbers → (words : List ℤ) → (answer : List ℕ) → Left
+answeredLeft t ws out = left done (written (answerAnd t []) out) ws
 
 abbrev pub startLeft : start.StartTold → List ℕ → List ℤ → Left
-startLeft t out ws = answeredLeft (ofStart (t .said)) (t .configuration) out ws
+startLeft t out ws = answeredLeft (ofStart (t .said)) (written (wordNumbers (t .configuration)) ws) out
 
 abbrev pub startInto : (records : List ℕ) → (named clocks : ℕ) → (answer : List ℕ) → (words : List ℤ) → Left
 startInto ns named clocks out ws = onRecords ns out ws (startLeft (start.startOf (clocksOf named clocks) (recordsOf ns)) out ws)
 
+-- the words are moved where the step is accepted, and left alone else
+abbrev pub stepWords : single.StepSaid → Configuration → List ℤ → List ℤ
+stepWords single.accepted c ws = written (wordNumbers c) ws
+stepWords (single.violated r) c ws = ws
+stepWords (single.refused number place) c ws = ws
+
 abbrev pub stepLeft : single.StepTold → List ℕ → List ℤ → Left
-stepLeft t out ws = answeredLeft (ofStep (t .said)) (t .configuration) out ws
+stepLeft t out ws = answeredLeft (ofStep (t .said)) (stepWords (t .said) (t .configuration) ws) out
 
 abbrev pub stepInto : (records : List ℕ) → (named clocks ticks : ℕ) → (answer : List ℕ) → (words : List ℤ) → Left
 stepInto ns named clocks f out ws = onRecords ns out ws (stepLeft (single.stepOf (clocksOf named clocks) (recordsOf ns) (configurationOf ws) f) out ws)
@@ -147,8 +159,8 @@ placeLeft a out = answerLeft done (written (answerAnd (ofPlace a) []) out)
 unfoldable pub placeInto : (records : List ℕ) → (named clocks : ℕ) → (first second : List ℤ) → (answer : List ℕ) → AnswerLeft
 placeInto ns named clocks ws vs out =
     cond (short out 3) (answerLeft answerShort out)
-    (cond (short ws 64) (answerLeft wordsShort out)
-    (cond (short vs 64) (answerLeft wordsShort out)
+    (cond (short ws 128) (answerLeft wordsShort out)
+    (cond (short vs 128) (answerLeft wordsShort out)
     (cond (ragged ns) (answerLeft recordsRagged out)
     (cond (not (kindsKnown ns)) (answerLeft kindUnknown out)
     (placeLeft (samePlaceOf (clocksOf named clocks) (recordsOf ns) (configurationOf ws .words) (configurationOf vs .words)) out)))))

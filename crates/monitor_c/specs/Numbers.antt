@@ -1,19 +1,23 @@
 -- Kinds, records and answers as numbers: what `include/ccsl_monitor.h` says of their layout. Assumes nothing.
-use mathlib.Core.Path.{_≡_}
-use mathlib.Core.Bool.{Bool, true, cond, _&&_}
+use mathlib.Core.Path.{_≡_, refl}
+use mathlib.Core.Bool.{Bool, true, false, cond, _&&_}
 use mathlib.Core.List.{List, [], _∷_, map}
-use Prim.Native.Nat.{ℕ, _+_, _≤_}
+use Prim.Native.Nat.{ℕ, zero, suc, _+_, _*_, _/_, _%_, _≤_}
 use lib.Dec.{eqb, leb}
-use lib.IntN.{ℤ}
-use lib.ListN.{getD, take}
-use Rattle.constraint.specs.Meaning.{word}
+use lib.IntN.{ℤ, pos}
+use lib.ListN.{length, getD, take}
+use lib.Signed.{leZ}
+use Rattle.constraint.specs.Meaning.{numbers, parameterFits}
+use Rattle.constraint.specs.Pairs.{first, second, paired}
 use Rattle.constraint.specs.SamePlace as place
 use Rattle.constraint.specs.declared.Clocks.{Clocks}
 use Rattle.constraint.specs.declared.Configuration.{Configuration}
 use Rattle.constraint.specs.declared.Constraint.{Constraint}
+use Rattle.constraint.specs.declared.Counter.the-variants.{Pending}
 use Rattle.constraint.specs.declared.Definition.the-variants.{Union, Inter, Lub, Glb, Await, StrictlySampled, Sampled, Upto, Deferred}
 use Rattle.constraint.specs.declared.Kind.{Kind}
 use Rattle.constraint.specs.declared.Kind.the-variants.{Empty, Relates, Defines}
+use Rattle.constraint.specs.declared.Parameter.{Parameter}
 use Rattle.constraint.specs.declared.Relation.the-variants.{Coincides, Excludes, SubClock, StrictlyPrecedes, Precedes}
 use Rattle.constraint.specs.declared.Word.{Word}
 use Rattle.text.specs.declared.Span.{Span}
@@ -46,9 +50,9 @@ kinds =
     Empty
     ∷ Relates Coincides ∷ Relates Excludes ∷ Relates SubClock ∷ Relates StrictlyPrecedes ∷ Relates Precedes
     ∷ Defines Union ∷ Defines Inter ∷ Defines Lub ∷ Defines Glb ∷ Defines Await ∷ Defines StrictlySampled ∷ Defines Sampled ∷ Defines Upto
-    ∷ []
+    ∷ Defines Deferred ∷ []
 
--- the kind with a number; no kind has a number above 13
+-- the kind with a number; no kind has a number above 14
 abbrev pub kindOf : ℕ → Kind
 kindOf n = getD kinds n Empty
 
@@ -69,7 +73,7 @@ kindNumber (Defines Sampled) = 12
 kindNumber (Defines Upto) = 13
 kindNumber (Defines Deferred) = 14
 
--- ---- records: kind, c, a, b, n, line
+-- ---- records: kind, c, a, b, n, line, numbers, count
 
 -- a number above the most that is let pass counts as that
 abbrev pub atMost : (most n : ℕ) → ℕ
@@ -82,7 +86,25 @@ clockOf n = atMost 255 n
 abbrev pub clocksOf : (named clocks : ℕ) → Clocks
 clocksOf n m = record { named = clockOf n; count = clockOf m }
 
--- the six numbers of a record
+-- the first k bytes
+abbrev pub keep : (k numbers : ℕ) → ℕ
+keep zero x = 0
+keep (suc k) x = x % 256 + 256 * keep k (x / 256)
+
+-- the list of a delay, a number a byte, the first in the lowest: the first k of its numbers; the empty list where it has fewer, which ends at a
+-- byte that is 0, or at the eighth
+abbrev pub listOf : (numbers count : ℕ) → ℕ
+listOf x k = cond (leb k (length (numbers (record { 0 = x })))) (keep k x) 0
+
+-- of the list `2 3` none, one, both, and one more than it has
+two-three : map (listOf (2 + 3 * 256)) (0 ∷ 1 ∷ 2 ∷ 3 ∷ []) ≡ 0 ∷ 2 ∷ (2 + 3 * 256) ∷ 0 ∷ []
+two-three = refl
+
+-- of a delay its list, of every other kind n
+abbrev pub parameterOf : (kind n numbers count : ℕ) → Parameter
+parameterOf k n x m = record { 0 = cond (eqb k 14) (listOf x m) (atMost 4_294_967_295 n) }
+
+-- the eight numbers of a record
 pub record RecordRow : Type 0 where
   pub kind : ℕ
   pub c : ℕ
@@ -90,6 +112,8 @@ pub record RecordRow : Type 0 where
   pub b : ℕ
   pub n : ℕ
   pub line : ℕ
+  pub numbers : ℕ
+  pub count : ℕ
 
 abbrev pub recordOf : RecordRow → Constraint
 recordOf s = record {
@@ -97,7 +121,7 @@ recordOf s = record {
   defined = clockOf (s .c);
   first = clockOf (s .a);
   second = clockOf (s .b);
-  parameter = record { 0 = atMost 4_294_967_295 (s .n) };
+  parameter = parameterOf (s .kind) (s .n) (s .numbers) (s .count);
   line = record { 0 = s .line };
 }
 
@@ -109,7 +133,9 @@ rows (k ∷ c ∷ []) = []
 rows (k ∷ c ∷ a ∷ []) = []
 rows (k ∷ c ∷ a ∷ b ∷ []) = []
 rows (k ∷ c ∷ a ∷ b ∷ n ∷ []) = []
-rows (k ∷ c ∷ a ∷ b ∷ n ∷ l ∷ ns) = record { kind = k; c = c; a = a; b = b; n = n; line = l } ∷ rows ns
+rows (k ∷ c ∷ a ∷ b ∷ n ∷ l ∷ []) = []
+rows (k ∷ c ∷ a ∷ b ∷ n ∷ l ∷ x ∷ []) = []
+rows (k ∷ c ∷ a ∷ b ∷ n ∷ l ∷ x ∷ m ∷ ns) = record { kind = k; c = c; a = a; b = b; n = n; line = l; numbers = x; count = m } ∷ rows ns
 
 abbrev pub recordsOf : List ℕ → List Constraint
 recordsOf ns = map recordOf (rows ns)
@@ -117,12 +143,12 @@ recordsOf ns = map recordOf (rows ns)
 -- whether every record's number of a kind is one
 abbrev pub allKnown : List RecordRow → Bool
 allKnown [] = true
-allKnown (s ∷ ss) = leb (s .kind) 13 && allKnown ss
+allKnown (s ∷ ss) = leb (s .kind) 14 && allKnown ss
 
 abbrev pub kindsKnown : List ℕ → Bool
 kindsKnown ns = allKnown (rows ns)
 
--- the six from an offset on
+-- the eight from an offset on
 abbrev pub rowAt : List ℕ → ℕ → RecordRow
 rowAt ns i = record {
   kind = getD ns i 0;
@@ -131,28 +157,46 @@ rowAt ns i = record {
   b = getD ns (i + 3) 0;
   n = getD ns (i + 4) 0;
   line = getD ns (i + 5) 0;
+  numbers = getD ns (i + 6) 0;
+  count = getD ns (i + 7) 0;
 }
 
--- the numbers of records, in their order
+abbrev pub delays : Constraint → Bool
+delays r = eqb (kindNumber (r .kind)) 14
+
+-- the numbers of records, in their order; a delay has no n, and every other kind no list
 abbrev pub recordNumbers : List Constraint → List ℕ
 recordNumbers [] = []
-recordNumbers (r ∷ rs) = kindNumber (r .kind) ∷ r .defined ∷ r .first ∷ r .second ∷ r .parameter .0 ∷ r .line .0 ∷ recordNumbers rs
+recordNumbers (r ∷ rs) =
+    kindNumber (r .kind) ∷ r .defined ∷ r .first ∷ r .second
+    ∷ cond (delays r) 0 (r .parameter .0)
+    ∷ r .line .0
+    ∷ cond (delays r) (r .parameter .0) 0
+    ∷ cond (delays r) (length (numbers (r .parameter))) 0
+    ∷ recordNumbers rs
+
+-- two numbers of each, one behind the other
+abbrev pub twos : {A B : Type 0} → (first second : A → B) → List A → List B
+twos f g [] = []
+twos f g (x ∷ xs) = f x ∷ g x ∷ twos f g xs
 
 -- where names start and end
 abbrev pub nameNumbers : List Span → List ℕ
-nameNumbers [] = []
-nameNumbers (p ∷ ps) = p .start ∷ p .end ∷ nameNumbers ps
+nameNumbers ps = twos (λ (p : Span). p .start) (λ (p : Span). p .end) ps
 
 -- ---- configurations
 
-abbrev pub configurationOf : List ℤ → Configuration
-configurationOf ws = record { words = map word (take 64 ws) }
+-- of each record its two words
+abbrev pub pairs : List ℤ → List Word
+pairs [] = []
+pairs (w ∷ []) = []
+pairs (w ∷ v ∷ ws) = paired w v ∷ pairs ws
 
-abbrev pub wordNumber : Word → ℤ
-wordNumber w = w .0
+abbrev pub configurationOf : List ℤ → Configuration
+configurationOf ws = record { words = take 64 (pairs ws) }
 
 abbrev pub wordNumbers : Configuration → List ℤ
-wordNumbers c = map wordNumber (c .words)
+wordNumbers c = twos first (λ (w : Word). pos (second w)) (c .words)
 
 -- ---- answers: what is said, 0 accepted, 1 violated, 2 refused, and its two numbers
 
@@ -193,13 +237,13 @@ answerAnd t ns = t .said ∷ t .first ∷ t .second ∷ ns
 
 -- ---- a theorem: records that were written are read back as the same records
 
--- a record of a kind that is known, whose numbers fit their fields
+-- a record whose numbers fit their fields, and whose list is all that its parameter has
 pub record Fitting (r : Constraint) : Type 0 where
-  pub kind : kindNumber (r .kind) ≤ 13
   pub defined : r .defined ≤ 255
   pub first : r .first ≤ 255
   pub second : r .second ≤ 255
-  pub parameter : r .parameter .0 ≤ 4_294_967_295
+  pub list : delays r ≡ true → r .parameter .0 ≡ listOf (r .parameter .0) (length (numbers (r .parameter)))
+  pub number : delays r ≡ false → r .parameter .0 ≤ 4_294_967_295
 
 pub data AllFitting : List Constraint → Type 0 where
   none : AllFitting []
@@ -207,3 +251,22 @@ pub data AllFitting : List Constraint → Type 0 where
 
 abbrev pub ReadBack : Type 0
 ReadBack = (rs : List Constraint) → AllFitting rs → (recordsOf (recordNumbers rs) ≡ rs) × (kindsKnown (recordNumbers rs) ≡ true)
+
+-- ---- a theorem: words that were written are read back as the same configuration
+
+-- words of 64 bits
+abbrev pub allWords : List Word → Bool
+allWords [] = true
+allWords (w ∷ ws) = leZ (w .0) (pos 9_223_372_036_854_775_807) && allWords ws
+
+abbrev pub WordsReadBack : Type 0
+WordsReadBack = (c : Configuration) → length (c .words) ≡ 64 → allWords (c .words) ≡ true → configurationOf (wordNumbers c) ≡ c
+
+-- ---- a theorem: 59 of a list that was handed in lets one to eight numbers pass, each 1 to 32
+
+abbrev pub allFit : (count numbers : ℕ) → Bool
+allFit zero x = true
+allFit (suc k) x = (leb 1 (x % 256) && leb (x % 256) 32) && allFit k (x / 256)
+
+abbrev pub ListsFit : Type 0
+ListsFit = (x k : ℕ) → parameterFits Pending (record { 0 = listOf x k }) ≡ ((leb 1 k && leb k 8) && allFit k x)

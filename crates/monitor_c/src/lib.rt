@@ -19,7 +19,7 @@ use records::clocks_of;
 use records::kinds_known;
 use records::records_of;
 ghost use mathlib.Core.Path.{_≡_};
-ghost use Rattle.monitor_c.specs.Calls.{left, runInto, tableLeft, readInto, startInto, stepInto, answerLeft, placeInto, orderLeft, orderInto};
+ghost use Rattle.monitor_c.specs.Calls.{layout, left, runInto, tableLeft, readInto, startInto, stepInto, answerLeft, placeInto, orderLeft, orderInto};
 
 // What every call returns, in the order of the checks.
 pub const DONE: u32 = 0;
@@ -45,11 +45,22 @@ pub const UNKNOWN_REFUSED: u32 = 0;
 
 pub const UNKNOWN_IGNORED: u32 = 1;
 
+// The layout of records and configurations: eight numbers a record, two words a record.
+pub const LAYOUT: u32 = 2;
+
 // An answer: what is said, and its two numbers, 0 where it has none.
 pub struct AnswerNumbers {
     pub said: u64,
     pub first: u64,
     pub second: u64,
+}
+
+// The number of the layout of records and configurations.
+#[no_mangle]
+pub extern "C" fn ccsl_layout() -> u32
+    ensures { λ r. ⌜ r ≡ layout ⌝ }
+{
+    LAYOUT
 }
 
 // Judges a recording by a table.
@@ -66,7 +77,7 @@ pub extern "C" fn ccsl_run(
     if answer.len() < 5 {
         return ANSWER_SHORT;
     }
-    if words.len() < 64 {
+    if words.len() < 128 {
         return WORDS_SHORT;
     }
     if UNKNOWN_IGNORED < unknown {
@@ -96,7 +107,7 @@ pub extern "C" fn ccsl_read_table(
     if answer.len() < 6 {
         return ANSWER_SHORT;
     }
-    if records.len() < 384 {
+    if records.len() < 512 {
         return RECORDS_SHORT;
     }
     if names.len() < 64 {
@@ -131,10 +142,10 @@ pub extern "C" fn ccsl_start_words(
     if answer.len() < 3 {
         return ANSWER_SHORT;
     }
-    if words.len() < 64 {
+    if words.len() < 128 {
         return WORDS_SHORT;
     }
-    if records.len() % 6 != 0 {
+    if records.len() % 8 != 0 {
         return RECORDS_RAGGED;
     }
     if !kinds_known(records) {
@@ -142,7 +153,7 @@ pub extern "C" fn ccsl_start_words(
     }
     let started = lent::start_on(
         records_of(records),
-        records.len() / 6,
+        records.len() / 8,
         clocks_of(named, clocks),
     );
     let outcome = started.outcome;
@@ -153,7 +164,7 @@ pub extern "C" fn ccsl_start_words(
     DONE
 }
 
-// One step of a monitor, whose words are moved where they stand.
+// One step of a monitor, whose words are moved where they stand if it is accepted, and left alone else.
 #[no_mangle]
 pub extern "C" fn ccsl_step(
     records: &[u64],
@@ -168,10 +179,10 @@ pub extern "C" fn ccsl_step(
     if answer.len() < 3 {
         return ANSWER_SHORT;
     }
-    if words.len() < 64 {
+    if words.len() < 128 {
         return WORDS_SHORT;
     }
-    if records.len() % 6 != 0 {
+    if records.len() % 8 != 0 {
         return RECORDS_RAGGED;
     }
     if !kinds_known(records) {
@@ -179,14 +190,18 @@ pub extern "C" fn ccsl_step(
     }
     let stepped = lent::step_on(
         records_of(records),
-        records.len() / 6,
+        records.len() / 8,
         clocks_of(named, clocks),
         configuration_of(words),
         ticks,
     );
     let said = stepped.answer;
     let configuration = stepped.configuration;
-    put_answer(answer, step_numbers(said));
+    let numbers = step_numbers(said);
+    put_answer(answer, numbers);
+    if numbers.said != 0 {
+        return DONE;
+    }
     put_words(words, configuration);
     DONE
 }
@@ -206,13 +221,13 @@ pub extern "C" fn ccsl_same_place(
     if answer.len() < 3 {
         return ANSWER_SHORT;
     }
-    if first.len() < 64 {
+    if first.len() < 128 {
         return WORDS_SHORT;
     }
-    if second.len() < 64 {
+    if second.len() < 128 {
         return WORDS_SHORT;
     }
-    if records.len() % 6 != 0 {
+    if records.len() % 8 != 0 {
         return RECORDS_RAGGED;
     }
     if !kinds_known(records) {
@@ -220,7 +235,7 @@ pub extern "C" fn ccsl_same_place(
     }
     let place = lent::same_place_on(
         records_of(records),
-        records.len() / 6,
+        records.len() / 8,
         clocks_of(named, clocks),
         configuration_of(first),
         configuration_of(second),
@@ -243,7 +258,7 @@ pub extern "C" fn ccsl_definition_order(
     if answer.len() < 4 {
         return ANSWER_SHORT;
     }
-    if records.len() % 6 != 0 {
+    if records.len() % 8 != 0 {
         return RECORDS_RAGGED;
     }
     if !kinds_known(records) {
@@ -252,7 +267,7 @@ pub extern "C" fn ccsl_definition_order(
     if order.len() < 32 {
         return ORDER_SHORT;
     }
-    let count = records.len() / 6;
+    let count = records.len() / 8;
     let ordered = order::definition_order(
         lent::first_64(records_of(records), count),
         count,

@@ -1,16 +1,19 @@
-// Choices, kinds, verdicts and answers as numbers.
+// Choices, kinds, parameters, verdicts and answers as numbers.
 use super::AnswerNumbers;
 use super::UNKNOWN_REFUSED;
 use constraint::Definition;
 use constraint::Kind;
+use constraint::Parameter;
 use constraint::Relation;
 use constraint::SamePlace;
+use constraint::list_length;
 use judging::StepAnswer;
 use limit::Check;
 use limit::Refusal;
 use recording::UnknownNames;
 use run::Verdict;
 ghost use mathlib.Core.Path.{_≡_};
+ghost use mathlib.Core.Bool.{cond};
 ghost use Rattle.limit.specs.Limit.{numberOf};
 ghost use Rattle.constraint.specs.SamePlace as place;
 ghost use Rattle.constraint.specs.declared.Kind.the-variants as kinds;
@@ -19,7 +22,7 @@ ghost use Rattle.run.specs.Run as run;
 ghost use Rattle.judging.specs.Single as single;
 ghost use Rattle.lent.specs.Start as start;
 ghost use Rattle.order.specs.Order as order;
-ghost use Rattle.monitor_c.specs.Numbers.{unknownOf, atMost, kindNumber, kindOf, answerNumbers, ofRun, ofTable, ofStart, ofStep, ofPlace, ofOrder};
+ghost use Rattle.monitor_c.specs.Numbers.{unknownOf, atMost, kindNumber, kindOf, keep, listOf, parameterOf, answerNumbers, ofRun, ofTable, ofStart, ofStep, ofPlace, ofOrder};
 
 // The choice that a number stands for.
 pub fn unknown_of(number: u32) -> UnknownNames
@@ -84,7 +87,7 @@ pub fn kind_number(kind: Kind) -> u64
 pub fn kind_of(n: u64) -> Kind
     ensures { λ r. ⌜ r ≡ kindOf n ⌝ }
 {
-    if 13 < n {
+    if 14 < n {
         return Kind::Empty;
     }
     if n == 1 {
@@ -126,7 +129,47 @@ pub fn kind_of(n: u64) -> Kind
     if n == 13 {
         return Kind::Defines(Definition::Upto);
     }
+    if n == 14 {
+        return Kind::Defines(Definition::Deferred);
+    }
     Kind::Empty
+}
+
+// The first where the test holds, else the second.
+pub fn pick(test: bool, first: u64, second: u64) -> u64
+    ensures { λ r. ⌜ r ≡ cond test first second ⌝ }
+{
+    if test { first } else { second }
+}
+
+// The first bytes of a number, this many.
+fn kept(count: u64, numbers: u64) -> u64
+    ensures { λ r. ⌜ r ≡ keep count numbers ⌝ }
+{
+    if count == 0 {
+        return 0;
+    }
+    numbers % 256 + 256 * kept(count - 1, numbers / 256)
+}
+
+// The first numbers of a list, this many; none where it has fewer.
+fn list_of(numbers: u64, count: u64) -> u64
+    ensures { λ r. ⌜ r ≡ listOf numbers count ⌝ }
+{
+    if count <= list_length(Parameter(numbers)) as u64 {
+        return kept(count, numbers);
+    }
+    0
+}
+
+// The list of a delay, the number n of every other kind.
+pub fn parameter_of(kind: u64, n: u64, numbers: u64, count: u64) -> Parameter
+    ensures { λ r. ⌜ r ≡ parameterOf kind n numbers count ⌝ }
+{
+    if kind == 14 {
+        return Parameter(list_of(numbers, count));
+    }
+    Parameter(at_most(4_294_967_295, n))
 }
 
 fn said(n: u64) -> AnswerNumbers

@@ -1,9 +1,9 @@
-// Records as they are handed in: six numbers each.
+// Records as they are handed in: eight numbers each.
 use super::numbers::at_most;
 use super::numbers::kind_of;
+use super::numbers::parameter_of;
 use constraint::Clocks;
 use constraint::Constraint;
-use constraint::Parameter;
 use limit::Place;
 ghost use mathlib.Core.Path.{_≡_};
 ghost use Prim.Native.Nat.{_+_, _≤_};
@@ -17,11 +17,11 @@ pub fn kinds_known(numbers: &[u64]) -> bool
     ensures { λ r. ⌜ r ≡ kindsKnown (now (numbers .entry)) ⌝ }
 {
     let mut at: usize = 0;
-    while at + 6 <= numbers.len() {
-        if 13 < numbers[at] {
+    while at + 8 <= numbers.len() {
+        if 14 < numbers[at] {
             return false;
         }
-        at += 6;
+        at += 8;
     }
     true
 }
@@ -43,9 +43,9 @@ pub fn clocks_of(named: u32, clocks: u32) -> Clocks
     }
 }
 
-// The record whose six numbers begin at an offset.
+// The record whose eight numbers begin at an offset.
 fn record_at(numbers: &[u64], at: usize) -> Constraint
-    requires { ⌜ at + 6 ≤ length (now numbers) ⌝ }
+    requires { ⌜ at + 8 ≤ length (now numbers) ⌝ }
     ensures { λ r. ⌜ r ≡ recordOf (rowAt (now (numbers .entry)) at) ⌝ }
 {
     Constraint {
@@ -53,7 +53,12 @@ fn record_at(numbers: &[u64], at: usize) -> Constraint
         defined: clock_of(numbers[at + 1]),
         first: clock_of(numbers[at + 2]),
         second: clock_of(numbers[at + 3]),
-        parameter: Parameter(at_most(4_294_967_295, numbers[at + 4])),
+        parameter: parameter_of(
+            numbers[at],
+            numbers[at + 4],
+            numbers[at + 6],
+            numbers[at + 7],
+        ),
         line: Place(numbers[at + 5] as usize),
     }
 }
@@ -66,11 +71,11 @@ pub fn records_of(numbers: &[u64]) -> [Constraint; 66]
     let mut at: usize = 0;
     let mut i: usize = 0;
     while i < 66 {
-        if numbers.len() < at + 6 {
+        if numbers.len() < at + 8 {
             return records;
         }
         records[i] = record_at(numbers, at);
-        at += 6;
+        at += 8;
         i += 1;
     }
     records

@@ -1,6 +1,6 @@
 -- The text determines what was told: its words have no parting byte, so that a line has one reading as words, and the digits say the number.
 -- Assumes nothing.
-use Prim.Native.Nat.{ℕ, suc, _+_, _≤_}
+use Prim.Native.Nat.{ℕ, suc, _+_, _/_, _%_, _≤_}
 use mathlib.Core.Path.{_≡_, refl, sym, ap, _∙_}
 use mathlib.Core.List.{List, [], _∷_, _++_, map, append-assoc}
 use mathlib.Core.Bool.{true, false, false≢true, and-eq-true-iff}
@@ -9,6 +9,7 @@ use borrow.Author.Tests.{le-leb, leb-true}
 use lib.Dec.{leb}
 use lib.IntN.{ℤ, pos, negsuc}
 use Rattle.constraint.specs.Meaning.{word}
+use Rattle.constraint.specs.Pairs.{firstOf, secondOf}
 use Rattle.constraint.specs.declared.Word.{Word}
 use Rattle.run.specs.Run.{Said, accepted, violated, refused}
 use Rattle.text.specs.Ascii.{ascii}
@@ -16,7 +17,7 @@ use Rattle.text.specs.Bytes.{digit, allBytes}
 use Rattle.text.specs.Digits.{digits}
 use Rattle.printing.specs.Decimal.{signed}
 use Rattle.printing.specs.Determined.{TextDetermines}
-use Rattle.printing.specs.Printed.{rest, line, verdictLine, stepsLine, configLine, wordText, shown}
+use Rattle.printing.specs.Printed.{rest, line, verdictLine, stepsLine, configLine, both, shown}
 use Rattle.text.proofs.Decimals.{digits-are, digits-all}
 use Rattle.printing.proofs.DecimalLaws.{digits-once}
 
@@ -107,15 +108,29 @@ signed-once (negsuc m) (negsuc n) e =
     let q : m ≡ n = omega (arith, digits-once (suc m) (suc n) r) in
     ap negsuc q
 
-word-solid : (w : Word) → Solid (wordText w)
-word-solid w = go (w .0)
-  where
-    go : (z : ℤ) → Solid (signed z)
-    go (pos n) = digits-solid n
-    go (negsuc n) = unfold allBytes in digits-solid (suc n)
+signed-solid : (z : ℤ) → Solid (signed z)
+signed-solid (pos n) = digits-solid n
+signed-solid (negsuc n) = unfold allBytes in digits-solid (suc n)
 
-text-once : (v w : Word) → wordText v ≡ wordText w → v ≡ w
-text-once v w e = ap word (signed-once (v .0) (w .0) e)
+-- two words are those of one part
+pair-once : (x y : ℤ) → firstOf x ≡ firstOf y → secondOf x ≡ secondOf y → x ≡ y
+pair-once (pos m) (pos n) e f =
+    let q : m % 4294967296 ≡ n % 4294967296 = cc in
+    let r : m ≡ n = omega (arith, f) in
+    ap pos r
+pair-once (pos m) (negsuc n) e f = cc
+pair-once (negsuc m) (pos n) e f = cc
+pair-once (negsuc m) (negsuc n) e f = e
+
+both-once : (l m : List Word) → both l ≡ both m → l ≡ m
+both-once [] [] e = refl
+both-once [] (w ∷ m) e = cc
+both-once (v ∷ l) [] e = cc
+both-once (v ∷ l) (w ∷ m) e =
+    let p : firstOf (v .0) ≡ firstOf (w .0) = cc in
+    let q : secondOf (v .0) ≡ secondOf (w .0) = cc in
+    let r : both l ≡ both m = cc in
+    λ i. ap word (pair-once (v .0) (w .0) p q) i ∷ both-once l m r i
 
 -- ---- the verdict as its first word and its numbers
 
@@ -172,7 +187,8 @@ steps-once m n s t e =
     ((cc), p .1)
 
 config-once : (l m : List Word) → configLine l ≡ configLine m → l ≡ m
-config-once l m e = values-once (ascii "config") (unfold allBytes in refl) wordText word-solid text-once l m [] [] (ap (λ (s : List ℕ). s ++ []) e) .0
+config-once l m e =
+    both-once l m (values-once (ascii "config") (unfold allBytes in refl) signed signed-solid signed-once (both l) (both m) [] [] (ap (λ (s : List ℕ). s ++ []) e) .0)
 
 pub text-determines : TextDetermines
 text-determines t u e =

@@ -1,21 +1,22 @@
--- A word with its sign; the words of a configuration, put one after the other. Assumes nothing.
+-- A word with its sign; the words of a configuration, put two after two. Assumes nothing.
 use Prim.Native.Nat.{ℕ, _+_, _≤_, _<_, min}
-use mathlib.Core.Path.{_≡_, refl, sym, _∙_, subst}
-use mathlib.Core.List.{List, [], _∷_, map}
+use mathlib.Core.Path.{_≡_, refl, sym, ap, _∙_, subst}
+use mathlib.Core.List.{List, [], _∷_, _++_, map, append-assoc}
 use mathlib.Core.Bool.{Bool, true, false, true≢false, false≢true}
 use native.Mathlib.Omega.{arith}
 use borrow.Author.Tests.{leb-true, leb-false}
 use lib.IntN.{ℤ, pos, negsuc, natAbs}
-use lib.ListN.{length, take, drop, getD, set, length-map, List·getD-map, drop-of-length-le}
+use lib.ListN.{length, take, drop, getD, set, drop-of-length-le}
 use lib.Dec.{leb}
 use lib.Seq.{getD-take, length-take-le, take-all}
 use Rattle.text.proofs.Bytes.{drop-next}
 use Rattle.constraint.specs.Meaning.{negative}
+use Rattle.constraint.specs.Pairs.{first, second}
 use Rattle.constraint.specs.declared.Word.{Word}
 use Rattle.run.specs.Run.{Told}
 use Rattle.text.specs.Digits.{digits}
 use Rattle.printing.specs.Decimal.{signed}
-use Rattle.printing.specs.Printed.{rest, wordText, printed, Begins}
+use Rattle.printing.specs.Printed.{rest, both, printed, Begins}
 use Rattle.printing.specs.Put.{Put}
 use Rattle.printing.proofs.PutLaws.{Left, left-then, left-none, put-byte}
 
@@ -36,30 +37,36 @@ module _ (z : ℤ) {n : ℕ} (m : n ≡ natAbs z) where
       go (pos n) e = refl
       go (negsuc n) e = absurd (true≢false e)
 
--- ---- the texts of the first n words
+-- ---- the texts of the first n parts
 
-abbrev pub texts : List Word → ℕ → List (List ℕ)
-texts ws n = map wordText (take n ws)
+abbrev pub texts : List Word → List (List ℕ)
+texts ws = map signed (both ws)
 
-module _ (ws : List Word) (n i : ℕ) (d : Word) (all : n ≤ length ws) where
-  texts-length : length (texts ws n) ≡ n
-  texts-length = length-map (take n ws) wordText ∙ length-take-le n ws all
+-- both words of a part, each behind a space
+abbrev pairText : Word → List ℕ
+pairText w = 32 ∷ signed (first w) ++ 32 ∷ digits (second w)
 
-  texts-next : i < n → drop i (texts ws n) ≡ wordText (getD ws i d) ∷ drop (i + 1) (texts ws n)
-  texts-next h =
-      let k : i < length (texts ws n) = omega (arith, texts-length) in
-      drop-next (texts ws n) i (wordText d) k ∙ rw (List·getD-map wordText (take n ws) i d, getD-take n ws i d h)
+-- in front of those of the parts behind it
+texts-cons : (w : Word) (ws : List Word) → rest (texts (w ∷ ws)) ≡ pairText w ++ rest (texts ws)
+texts-cons w ws = ap (λ (l : List ℕ). 32 ∷ l) (sym (append-assoc (signed (first w)) (32 ∷ digits (second w)) (rest (texts ws))))
 
-  module _ {l : List ℕ} {at : ℕ} {t m : List ℕ} {e : ℕ} (h : Left l at t m e (rest (drop i (texts ws n)))) where
-    pub left-word : i < n → {k : List ℕ} {f : ℕ} → Put m e (32 ∷ wordText (getD ws i d)) k f → Left l at t k f (rest (drop (i + 1) (texts ws n)))
-    left-word b p = left-then (32 ∷ wordText (getD ws i d)) (rest (drop (i + 1) (texts ws n))) (rw (texts-next b) at h) p
+module _ (ws : List Word) (n i : ℕ) (d : Word) (all : n ≤ length ws) {l : List ℕ} {at : ℕ} {t m : List ℕ} {e : ℕ} (h : Left l at t m e (rest (texts (drop i (take n ws))))) where
+  first-length : length (take n ws) ≡ n
+  first-length = length-take-le n ws all
 
-    pub left-end : n ≤ i → Put l at t (set m e 10) (e + 1)
-    left-end b =
-        let k : length (texts ws n) ≤ i = omega (arith, texts-length) in
-        left-none (left-then (10 ∷ []) [] (rw (drop-of-length-le (texts ws n) k) at h) (put-byte m e 10))
+  pub left-pair : i < n → {k : List ℕ} {f : ℕ} → Put m e (pairText (getD ws i d)) k f → Left l at t k f (rest (texts (drop (i + 1) (take n ws))))
+  left-pair b p =
+      let k : i < length (take n ws) = omega (arith, first-length) in
+      let next : rest (texts (drop i (take n ws))) ≡ pairText (getD ws i d) ++ rest (texts (drop (i + 1) (take n ws))) =
+      rw (drop-next (take n ws) i d k, getD-take n ws i d b) (texts-cons (getD ws i d) (drop (i + 1) (take n ws))) in
+      left-then (pairText (getD ws i d)) (rest (texts (drop (i + 1) (take n ws)))) (rw next at h) p
 
--- there are no more words than a configuration has
+  pub left-end : n ≤ i → Put l at t (set m e 10) (e + 1)
+  left-end b =
+      let k : length (take n ws) ≤ i = omega (arith, first-length) in
+      left-none (left-then (10 ∷ []) [] (rw (drop-of-length-le (take n ws) k) at h) (put-byte m e 10))
+
+-- there are no more parts than a configuration has
 pub take-shown : {A : Type 0} (l : List A) (n k : ℕ) → length l ≡ k → take (min n k) l ≡ take n l
 take-shown l n k e = go (leb n k) refl
   where

@@ -3,7 +3,7 @@ use mathlib.Core.Path.{_≡_}
 use Rattle.run.specs.Run.{Told}
 use Rattle.printing.specs.Printed.{printed, shown}
 
--- verdict, number of accepted steps, and a word for each constraint
+-- verdict, number of accepted steps, and the two words of each constraint
 pub record Alike (t u : Told) : Type 0 where
   pub said : t .said ≡ u .said
   pub steps : t .steps ≡ u .steps

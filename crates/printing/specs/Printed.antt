@@ -1,11 +1,12 @@
--- What the program prints: document 01, "The program", three lines: verdict, `steps n`, `config` and a word for each constraint. Assumes
--- nothing.
+-- What the program prints: document 01, "The program", three lines: verdict, `steps n`, `config` and the two words of each constraint (document
+-- 02, M-105). Assumes nothing.
 use mathlib.Core.Path.{_≡_, refl}
 use mathlib.Core.List.{List, [], _∷_, _++_, map}
 use Prim.Native.Nat.{ℕ, _≤_}
-use lib.IntN.{pos, negsuc}
+use lib.IntN.{ℤ, pos, negsuc}
 use lib.ListN.{length, take, drop, replicate}
 use Rattle.constraint.specs.Meaning.{word}
+use Rattle.constraint.specs.Pairs.{first, second, together}
 use Rattle.constraint.specs.declared.Word.{Word}
 use Rattle.run.specs.Run.{Told, Said, accepted, violated, refused, zeros}
 use Rattle.text.specs.Ascii.{ascii}
@@ -33,13 +34,15 @@ verdictLine (refused n p) = line (ascii "refused") (digits n ∷ digits p ∷ []
 abbrev pub stepsLine : ℕ → List ℕ
 stepsLine n = line (ascii "steps") (digits n ∷ [])
 
-abbrev pub wordText : Word → List ℕ
-wordText w = signed (w .0)
+-- the two words of each constraint
+abbrev pub both : List Word → List ℤ
+both [] = []
+both (w ∷ ws) = first w ∷ pos (second w) ∷ both ws
 
 abbrev pub configLine : List Word → List ℕ
-configLine ws = line (ascii "config") (map wordText ws)
+configLine ws = line (ascii "config") (map signed (both ws))
 
--- a word for each constraint
+-- the part of each constraint
 abbrev pub shown : Told → List Word
 shown t = take (t .constraints) (t .configuration .words)
 
@@ -54,10 +57,10 @@ pub record Begins (before text after : List ℕ) (n : ℕ) : Type 0 where
   pub within : n ≤ length after
   pub counts : n ≡ length (take n after)
 
--- ---- document 01's example; a refused table; a negative word
+-- ---- document 01's example; a refused table; a negative word, and a delay with two pending ticks and one number used
 
 first-lesson : printed (record { said = violated 1 9; steps = 4; constraints = 2; configuration = zeros })
-    ≡ ascii "violated 1 9\nsteps 4\nconfig 0 0\n"
+    ≡ ascii "violated 1 9\nsteps 4\nconfig 0 0 0 0\n"
 unfolding digits digitsOf
 first-lesson = refl
 
@@ -66,7 +69,7 @@ refused-table : printed (record { said = refused 12 3; steps = 0; constraints = 
 unfolding digits digitsOf
 refused-table = refl
 
-one-behind : printed (record { said = accepted; steps = 10; constraints = 1; configuration = record { words = word (negsuc 0) ∷ replicate 63 (word (pos 0)) } })
-    ≡ ascii "accepted\nsteps 10\nconfig -1\n"
+one-behind : printed (record { said = accepted; steps = 10; constraints = 2; configuration = record { words = word (negsuc 0) ∷ together 5 1 ∷ replicate 62 (word (pos 0)) } })
+    ≡ ascii "accepted\nsteps 10\nconfig -1 0 5 1\n"
 unfolding digits digitsOf
 one-behind = refl

@@ -1,11 +1,11 @@
-// The three lines of document 01, "The program": verdict, `steps n`, `config` and a word for each constraint.
+// The three lines of document 01, "The program": verdict, `steps n`, `config` and two words for each constraint.
 use super::ROOM;
 use super::put::put_text;
 use super::value::put_limit;
+use super::value::put_pair;
 use super::value::put_place;
 use super::value::put_steps;
 use super::value::put_time;
-use super::value::put_word;
 use constraint::Configuration;
 use constraint::Word;
 use limit::Place;
@@ -21,6 +21,7 @@ ghost use Prim.Native.Nat.{_+_, _≤_, min};
 ghost use lib.ListN.{length, take};
 ghost use Rattle.limit.specs.Limit.{numberOf};
 ghost use Rattle.run.specs.Run as run;
+ghost use Rattle.printing.specs.Decimal.{signed};
 ghost use Rattle.printing.specs.Printed as p;
 ghost use Rattle.printing.specs.Put.{Short};
 
@@ -67,22 +68,22 @@ fn steps_line(out: &mut [u8], at: usize, steps: Steps) -> usize
     put_text(out, b, b"\n")
 }
 
-// The first words of a configuration, each behind a space, and the line's end.
+// Both words of the first constraints of a configuration, each behind a space, and the line's end.
 fn put_words(out: &mut [u8], at: usize, words: [Word; 64], count: usize) -> usize
-    requires { ⌜ (count ≤ 64) × (at + 1345 ≤ length (now out)) ⌝ }
-    ensures { λ r. ⌜ Short 1345 (now (out .entry)) at (p.rest (map p.wordText (take count words))) (now (out .exit)) r ⌝ }
+    requires { ⌜ (count ≤ 64) × (at + 2689 ≤ length (now out)) ⌝ }
+    ensures { λ r. ⌜ Short 2689 (now (out .entry)) at (p.rest (map signed (p.both (take count words)))) (now (out .exit)) r ⌝ }
 {
     let mut to = at;
     let mut i = 0;
     while i < count {
-        to = put_word(out, to, words[i]);
+        to = put_pair(out, to, words[i]);
         i += 1;
     }
     out[to] = 10;
     to + 1
 }
 
-// The number of words that are printed: a configuration has 64.
+// The number of constraints whose words are printed: a configuration has those of 64.
 fn shown(constraints: usize) -> usize
     ensures { λ r. ⌜ r ≡ min constraints 64 ⌝ }
 {
@@ -90,8 +91,8 @@ fn shown(constraints: usize) -> usize
 }
 
 fn config_line(out: &mut [u8], at: usize, configuration: Configuration, constraints: usize) -> usize
-    requires { ⌜ at + 1351 ≤ length (now out) ⌝ }
-    ensures { λ r. ⌜ Short 1351 (now (out .entry)) at (p.configLine (take constraints (configuration .words))) (now (out .exit)) r ⌝ }
+    requires { ⌜ at + 2695 ≤ length (now out) ⌝ }
+    ensures { λ r. ⌜ Short 2695 (now (out .entry)) at (p.configLine (take constraints (configuration .words))) (now (out .exit)) r ⌝ }
 {
     let words = configuration.words;
     let a = put_text(out, at, b"config");

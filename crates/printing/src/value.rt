@@ -7,12 +7,13 @@ use limit::Limit;
 use limit::Place;
 use recording::Time;
 use run::Steps;
-ghost use mathlib.Core.List.{_∷_};
+ghost use mathlib.Core.List.{_∷_, _++_};
 ghost use Prim.Native.Nat.{_+_, _≤_};
 ghost use lib.ListN.{length};
+ghost use Rattle.constraint.specs.Pairs.{first, second};
 ghost use Rattle.limit.specs.Limit.{numberOf};
 ghost use Rattle.text.specs.Digits.{digits};
-ghost use Rattle.printing.specs.Printed.{wordText};
+ghost use Rattle.printing.specs.Decimal.{signed};
 ghost use Rattle.printing.specs.Put.{Short};
 
 // A number behind a space.
@@ -57,15 +58,23 @@ pub fn put_limit(out: &mut [u8], at: usize, limit: Limit) -> usize
 }
 
 // A word, with a minus sign where it is negative.
-pub fn put_word(out: &mut [u8], at: usize, w: Word) -> usize
+fn put_word(out: &mut [u8], at: usize, z: i64) -> usize
     requires { ⌜ at + 21 ≤ length (now out) ⌝ }
-    ensures { λ r. ⌜ Short 21 (now (out .entry)) at (32 ∷ wordText w) (now (out .exit)) r ⌝ }
+    ensures { λ r. ⌜ Short 21 (now (out .entry)) at (32 ∷ signed z) (now (out .exit)) r ⌝ }
 {
-    let z = w.0;
     let n = constraint::magnitude(z);
     if z < 0 {
         let to = put_text(out, at, b" -");
         return put_number(out, to, n);
     }
     spaced(out, at, n)
+}
+
+// Both words of a constraint.
+pub fn put_pair(out: &mut [u8], at: usize, w: Word) -> usize
+    requires { ⌜ at + 42 ≤ length (now out) ⌝ }
+    ensures { λ r. ⌜ Short 42 (now (out .entry)) at (32 ∷ signed (first w) ++ 32 ∷ digits (second w)) (now (out .exit)) r ⌝ }
+{
+    let to = put_word(out, at, constraint::first(w));
+    put_word(out, to, constraint::second(w))
 }

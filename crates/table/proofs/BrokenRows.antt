@@ -1,4 +1,4 @@
--- Each check of a line is broken exactly where its row of the limits is: 11, 19, 20 and 13 to 15 by the line, 16 to 18 by the lines above too.
+-- Each check of a line is broken exactly where its row of the limits is: 11, 19, 20, 13, 14, 22 and 15 by the line, 16 to 18 by the lines above too.
 -- Assumes nothing.
 use mathlib.Core.Path.{_≡_, refl, sym, ap, subst, _∙_}
 use mathlib.Core.Logic.{_↔_}
@@ -9,7 +9,7 @@ use native.Mathlib.Omega.{arith}
 use borrow.Author.Tests.{leb-true, le-leb, ltb-true}
 use lib.Dec.{leb, ltb}
 use lib.ListN.{length}
-use Rattle.limit.specs.declared.Limit.the-variants.{LineByte, NestingDepth, Unpaired, NameLength, AwaitNumber, ClockTwice, DefinedTwice, TableClocks, TableConstraints}
+use Rattle.limit.specs.declared.Limit.the-variants.{LineByte, NestingDepth, Unpaired, NameLength, AwaitNumber, DelayNumber, ClockTwice, DefinedTwice, TableClocks, TableConstraints}
 use Rattle.constraint.specs.Meaning.{definedOf}
 use Rattle.constraint.specs.Ticks.{Ticks, any}
 use Rattle.constraint.specs.declared.Relation.{Relation}
@@ -18,15 +18,15 @@ use Rattle.text.specs.declared.Class.the-variants.{Printable}
 use Rattle.text.specs.declared.Span.{Span}
 use Rattle.grammar.specs.declared.Inner.{Inner}
 use Rattle.grammar.specs.declared.Names.{Names}
-use Rattle.forms.specs.Forms.{Word, Words, Line, wordsOf, oneOf, both, awaits, Form, relates, defines, Operand, IsForm, IsOperand, levels, HasForm}
-use Rattle.forms.specs.Lines.{namesIn, pairsIn, constraintsIn, awaitNumbers, clockNames, pairs, constraints, Some, Filled, DefinesClock, tooDeep, unpaired, Breaks, byte-outside, too-deep, no-partner, long-name, await-number, name-twice, defined-above, many-clocks, many-constraints, standing}
+use Rattle.forms.specs.Forms.{Word, Words, Line, wordsOf, oneOf, both, awaits, delays, Form, relates, defines, Operand, IsForm, IsOperand, levels, HasForm}
+use Rattle.forms.specs.Lines.{namesIn, pairsIn, constraintsIn, awaitNumbers, delayLists, clockNames, pairs, constraints, Some, Filled, DefinesClock, ListOutside, tooDeep, unpaired, Breaks, byte-outside, too-deep, no-partner, long-name, await-number, delay-list, name-twice, defined-above, many-clocks, many-constraints, standing}
 use Rattle.forms.proofs.ClockNames.{Keeps, constraints-more}
 use Rattle.forms.proofs.FormRows.{clockNamed, formOf}
 use Rattle.forms.proofs.FormUnique.{one-form-of}
 use Rattle.forms.proofs.Said.{said}
-use Rattle.table.specs.Reader.{anyWord, longName, badNumber, twice, manyClocks}
+use Rattle.table.specs.Reader.{anyWord, longName, badNumber, badList, twice, manyClocks}
 use Rattle.table.proofs.ClocksDefined.{Marks, marked-row}
-use Rattle.table.proofs.LineRows.{byte-row, long-row, number-row, Again, twice-row}
+use Rattle.table.proofs.LineRows.{byte-row, long-row, number-row, list-rows, Again, twice-row}
 use Rattle.table.proofs.NamesListed.{listed, clock-is}
 
 -- ---- each check is passed exactly where its row is not broken
@@ -68,6 +68,15 @@ module _ (above : List Line) (l : Line) where
         from : Breaks above l AwaitNumber → anyWord (badNumber t) ws ≡ true
         from (await-number {f = g} k s) = row g k .1 s
 
+    pub row-22 : (f : Form Operand) → HasForm l f → (anyWord (badList t) ws ≡ true) ↔ Breaks above l DelayNumber
+    row-22 f h = (λ e. delay-list h (row f h .0 e), from)
+      where
+        row : (f : Form Operand) → HasForm l f → (anyWord (badList t) ws ≡ true) ↔ Some ListOutside (delayLists f)
+        row f h = list-rows t ws (subst (λ (us : Words). IsForm (IsOperand levels) us f) (sym words) h)
+
+        from : Breaks above l DelayNumber → anyWord (badList t) ws ≡ true
+        from (delay-list {f = g} k s) = row g k .1 s
+
     pub row-15 : (anyWord (twice t) ws ≡ true) ↔ Breaks above l ClockTwice
     row-15 = (λ e. let r = row .0 e in name-twice (r .0) (r .1) (r .2) (r .3) (r .4), from)
       where
@@ -106,6 +115,7 @@ module _ (above : List Line) (l : Line) where
         from (defined-above {c = c} p s) = absurd (none-defined h c p)
     row-16 (defines c (both j x y)) h = rw (or-false (F (clockNamed t ns c))) (row-defines c (both j x y, h))
     row-16 (defines c (awaits n x)) h = rw (or-false (F (clockNamed t ns c))) (row-defines c (awaits n x, h))
+    row-16 (defines c (delays ms x y)) h = rw (or-false (F (clockNamed t ns c))) (row-defines c (delays ms x y, h))
 
   -- ---- 17 and 18
   module _ (full : Filled l) where

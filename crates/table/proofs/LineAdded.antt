@@ -22,8 +22,8 @@ use Rattle.grammar.specs.declared.Builder.{Builder}
 use Rattle.grammar.specs.declared.Inner.{Inner}
 use Rattle.grammar.specs.declared.Names.{Names}
 use Rattle.grammar.proofs.BuildingLaws.{length-definitions}
-use Rattle.forms.specs.Forms.{Word, Words, Line, wordsOf, oneOf, both, awaits, Form, relates, defines, Operand, levels, HasForm}
-use Rattle.forms.specs.Lines.{namesIn, pairsIn, constraintsIn, withNames, awaitNumbers, clockNames, pairs, constraints, Some, DefinesClock, standing, formImplicits, recordsOf}
+use Rattle.forms.specs.Forms.{Word, Words, Line, wordsOf, oneOf, both, awaits, delays, Form, relates, defines, Operand, levels, HasForm}
+use Rattle.forms.specs.Lines.{namesIn, pairsIn, constraintsIn, withNames, awaitNumbers, delayLists, clockNames, pairs, constraints, Some, DefinesClock, ListOutside, standing, formImplicits, recordsOf}
 use Rattle.forms.proofs.BlankLines.{form-filled}
 use Rattle.forms.proofs.ClockNames.{AllOf, names-more, pairs-more, constraints-more, standing-below}
 use Rattle.forms.proofs.FormNames.{line-named}
@@ -33,7 +33,7 @@ use Rattle.forms.proofs.Said.{said}
 use Rattle.table.proofs.BrokenRows.{one-defined, none-defined, one-more}
 use Rattle.table.proofs.ClocksDefined.{Marks, marks-same, marks-one}
 use Rattle.table.proofs.NamesListed.{listed, clock-is, Named, named-in, named-again}
-use Rattle.table.proofs.Placing.{High, all-inside, stands-first, form-stands, IsFormed}
+use Rattle.table.proofs.Placing.{High, kept-all, stands-first, form-stands, IsFormed}
 
 pub record Builds (t : List ℕ) (at : ℕ) (above : List Line) (rs : List Constraint) (b : Builder) : Type 0 where
   pub names : Named t at (clockNames above) (clockNames above) (b .names)
@@ -139,9 +139,9 @@ module _ (t : List ℕ) (at : ℕ) (above : List Line) (l : Line) (ms : Words) (
   pub number : (w : Word) → oneOf us w ≡ true → clockNamed t ns w ≡ standing us w
   number w e = clock-is t ns w ∙ rw (m .words o, e)
 
-  -- what the form comes to, where 14 lets its numbers pass and there is room for its implicit clocks
-  pub form-made : (n k : ℕ) (f : Form Operand) → HasForm l f → (Some (λ j. 1 ≤ j → j ≤ 1_000_000 → ⊥) (awaitNumbers f) → ⊥) → k + formImplicits f ≤ 32 → IsFormed t ns us n number f (noInner k) k
-  form-made n k f h p r = form-stands t ns us n number f (noInner k) k (line-named above l f h) (all-inside (awaitNumbers f) p) r (stands-first t ns us n number k)
+  -- what the form comes to, where 14 and 22 let its numbers and lists pass and there is room for its implicit clocks
+  pub form-made : (n k : ℕ) (f : Form Operand) → HasForm l f → (Some (λ j. 1 ≤ j → j ≤ 1_000_000 → ⊥) (awaitNumbers f) → ⊥) → (Some ListOutside (delayLists f) → ⊥) → k + formImplicits f ≤ 32 → IsFormed t ns us n number f (noInner k) k
+  form-made n k f h p q r = form-stands t ns us n number f (noInner k) k (line-named above l f h) (kept-all (awaitNumbers f) (delayLists f) p q) r (stands-first t ns us n number k)
 
   module _ (i : Inner) (d : ℕ) (k : Marks above (bits d)) where
     one-marked : (c : Word) → DefinesClock c l → oneOf us c ≡ true → Marks (above ++ l ∷ []) (bits (withTick d (clockNamed t ns c)))
@@ -154,6 +154,7 @@ module _ (t : List ℕ) (at : ℕ) (above : List Line) (l : Line) (ms : Words) (
     marks-made (relates j x y) h a = marks-same above (bits d) k l (none-defined above l h)
     marks-made (defines c (both j x y)) h a = one-marked c (both j x y, h) (a .0)
     marks-made (defines c (awaits j x)) h a = one-marked c (awaits j x, h) (a .0)
+    marks-made (defines c (delays js x y)) h a = one-marked c (delays js x y, h) (a .0)
 
   -- in the whole text s
   module _ (n : ℕ) (s : List ℕ) (same : said t (listed ns) ≡ said s (listed ns)) (from : ℕ) (rs : List Constraint) (b : Builder) (g : Builds s from above rs b) where

@@ -10,7 +10,7 @@ use borrow.Author.Tests.{ltb-false, leb-false}
 use lib.ListN.{length, take, drop, length-take}
 use Rattle.limit.specs.Checked.{Checked, passed, stopped, refuseIf}
 use Rattle.limit.specs.declared.Limit.{Limit}
-use Rattle.limit.specs.declared.Limit.the-variants.{LineByte, NestingDepth, Unpaired, LineForm, NameLength, AwaitNumber, ClockTwice, DefinedTwice, TableClocks, TableConstraints}
+use Rattle.limit.specs.declared.Limit.the-variants.{LineByte, NestingDepth, Unpaired, LineForm, NameLength, AwaitNumber, DelayNumber, ClockTwice, DefinedTwice, TableClocks, TableConstraints}
 use Rattle.constraint.specs.Meaning.{definedOf}
 use Rattle.constraint.specs.Ticks.{any, bits}
 use Rattle.constraint.specs.declared.Constraint.{Constraint}
@@ -26,7 +26,7 @@ use Rattle.grammar.specs.declared.Builder.{Builder}
 use Rattle.grammar.specs.declared.Inner.{Inner}
 use Rattle.grammar.specs.declared.Names.{Names}
 use Rattle.forms.specs.Forms.{Words, Line, wordsOf, Form, Operand, HasForm, IsForm, IsOperand, levels}
-use Rattle.forms.specs.Lines.{pairsIn, clockNames, pairs, constraints, tooDeep, unpaired, Filled, turn, Breaks, no-form, await-number, BreaksNothing, formImplicits, recordsOf}
+use Rattle.forms.specs.Lines.{pairsIn, clockNames, pairs, constraints, tooDeep, unpaired, Filled, turn, Breaks, no-form, await-number, delay-list, BreaksNothing, formImplicits, recordsOf}
 use Rattle.forms.proofs.BlankLines.{blank-words, other-words, blank-breaks-nothing}
 use Rattle.forms.proofs.Broken.{Clear, checkAt, clear-first, clear-next, clear-last}
 use Rattle.forms.proofs.ClockNames.{names-more, pairs-more}
@@ -34,8 +34,8 @@ use Rattle.forms.proofs.FormWords.{form-pairs}
 use Rattle.forms.proofs.FormRows.{formOf, form-sound, no-form-row}
 use Rattle.forms.proofs.Said.{said}
 use Rattle.forms.proofs.SplitWords.{Inside, inside-more, line-bytes, words-are, words-inside, cut-same}
-use Rattle.table.specs.Reader.{anyWord, longName, badNumber, twice, manyClocks, manyConstraints, addLine, formStep, filledStep, blank, lineStep}
-use Rattle.table.proofs.BrokenRows.{one-more, row-11, row-13, row-14, row-15, row-16, row-17, row-18, row-19, row-20}
+use Rattle.table.specs.Reader.{anyWord, longName, badNumber, badList, twice, manyClocks, manyConstraints, addLine, formStep, filledStep, blank, lineStep}
+use Rattle.table.proofs.BrokenRows.{one-more, row-11, row-13, row-14, row-15, row-16, row-17, row-18, row-19, row-20, row-22}
 use Rattle.table.proofs.LineAdded.{Builds, Added, none-added, one-added, builds-on, blank-builds, number, form-made, form-builds}
 use Rattle.table.proofs.NamesListed.{listed, listed-length, Named, named-in, all-named}
 use Rattle.table.proofs.Placing.{IsFormed, form-clocks}
@@ -130,11 +130,12 @@ module _ (t : List ℕ) (a e n : ℕ) (h : a ≤ e) (k : e ≤ length t) (above 
         fits : (c i p u : ℕ) → c ≡ u → i ≡ min 33 p → c + i < 33 → u + p ≤ 32
         fits c i p u q r h = omega arith
 
-    module _ (o : ns .over ≡ false) (most : length us + pairs (above ++ l ∷ []) ≤ 32) (p14 : anyWord (badNumber cut) ws ≡ false) where
+    module _ (o : ns .over ≡ false) (most : length us + pairs (above ++ l ∷ []) ≤ 32) (p14 : anyWord (badNumber cut) ws ≡ false) (p22 : anyWord (badList cut) ws ≡ false) where
       form-is : IsFormed cut ns us n (number cut e above l (clockNames above) ns named o) f first (b .implicit)
       form-is =
           form-made cut e above l (clockNames above) ns named o n (b .implicit) f form
           (λ s. false≢true (sym p14 ∙ row-14 above l cut ws words f form .1 (await-number form s)))
+          (λ s. false≢true (sym p22 ∙ row-22 above l cut ws words f form .1 (delay-list form s)))
           (few-of (length us) (pairs (above ++ l ∷ [])) (b .implicit + formImplicits f) implicit-is most)
         where
           few-of : (u p q : ℕ) → p ≡ q → u + p ≤ 32 → q ≤ 32
@@ -161,22 +162,23 @@ module _ (t : List ℕ) (a e n : ℕ) (h : a ≤ e) (k : e ≤ length t) (above 
               enough c i k p a b h e = omega arith
 
     -- 16, 17 and 18
-    line-added : anyWord (badNumber cut) ws ≡ false → Clear above l (turn DefinedTwice) → Comes (addLine n b ns (made .left) (made .constraint))
+    line-added : anyWord (badNumber cut) ws ≡ false → anyWord (badList cut) ws ≡ false → Clear above l (turn DefinedTwice) → Comes (addLine n b ns (made .left) (made .constraint))
     unfolding addLine
-    line-added p14 c16 =
+    line-added p14 p22 c16 =
         check Next above l n (any (bits (b .defined)) (definedOf (made .constraint))) DefinedTwice refl (row-16 above l (bits (b .defined)) (g .marks) cut ns first (named .kept) few f form) c16 _ (λ p16 c17.
         check Next above l n (manyClocks ns (made .left)) TableClocks refl (row-17 above l full ns (made .left) (named .over) all-named-once counted) c17 _ (λ p17 c18.
         let r = room p17 in
-        line-fits (r .0) (r .1) p14 c18))
+        line-fits (r .0) (r .1) p14 p22 c18))
 
-    -- 13, 14 and 15
+    -- 13, 14, 22 and 15
     line-formed : (p : Formed Inner) (us : List Span) → p ≡ made → Clear above l (turn NameLength) → Comes (formStep cut n b ns ws (parsed p us))
     unfolding formStep
     line-formed p us q c13 =
         check Next above l n (anyWord (longName cut) ws) NameLength refl (row-13 above l cut ws words) c13 _ (λ p13 c14.
-        check Next above l n (anyWord (badNumber cut) ws) AwaitNumber refl (row-14 above l cut ws words f form) c14 _ (λ p14 c15.
+        check Next above l n (anyWord (badNumber cut) ws) AwaitNumber refl (row-14 above l cut ws words f form) c14 _ (λ p14 c22.
+        check Next above l n (anyWord (badList cut) ws) DelayNumber refl (row-22 above l cut ws words f form) c22 _ (λ p22 c15.
         check Next above l n (anyWord (twice cut) ws) ClockTwice refl (row-15 above l cut ws words) c15 _ (λ p15 c16.
-        rw q (line-added p14 c16))))
+        rw q (line-added p14 p22 c16)))))
 
   module _ (full : Filled l) where
     -- 12

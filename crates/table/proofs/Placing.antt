@@ -10,21 +10,24 @@ use borrow.Author.Tests.{lt-ltb, ltb-true, ltb-false, lt-leb, leb-false}
 use lib.Dec.{ltb, leb}
 use lib.ListN.{length, take, set, length-set}
 use lib.Seq.{take-suc-set}
+use Rattle.constraint.specs.Meaning.{packed}
 use Rattle.constraint.specs.declared.Constraint.{Constraint}
 use Rattle.constraint.specs.declared.Definition.{Definition}
-use Rattle.constraint.specs.declared.Definition.the-variants.{Await as AwaitKind}
+use Rattle.constraint.specs.declared.Definition.the-variants.{Await as AwaitKind, Deferred}
 use Rattle.constraint.specs.declared.Kind.the-variants.{Defines}
+use Rattle.constraint.specs.declared.Parameter.{Parameter}
 use Rattle.grammar.specs.Building.{defining, implied, whole, noInner, provisional, counted, withImplicit, definitions, onItsLine}
-use Rattle.grammar.specs.Grammar.{Formed, sides}
+use Rattle.grammar.specs.Grammar.{Formed, sides, isList, listed}
 use Rattle.grammar.specs.declared.Implied.{Implied}
 use Rattle.grammar.specs.declared.Inner.{Inner}
 use Rattle.grammar.specs.declared.Names.{Names}
-use Rattle.forms.specs.Forms.{Word, Words, oneOf, both, awaits, Form, relates, defines, Operand, name, both-inside, awaits-inside}
-use Rattle.forms.specs.Lines.{operandNumbers, awaitNumbers, Some, here, later, standing, implicits, formImplicits, clockOf, operandRecords, formRecords, ownRecord}
+use Rattle.forms.specs.Forms.{Word, Words, oneOf, both, awaits, delays, Form, relates, defines, Operand, name, both-inside, awaits-inside, delays-inside}
+use Rattle.forms.specs.Lines.{operandNumbers, awaitNumbers, operandLists, delayLists, Some, here, later, ListOutside, standing, implicits, formImplicits, clockOf, operandRecords, formRecords, ownRecord}
 use Rattle.forms.proofs.ClockNames.{AllOf, all-left, all-right}
 use Rattle.forms.proofs.FormLaws.{parameterOf}
 use Rattle.forms.proofs.FormRows.{clockNamed, enclosed, placed, formOf}
 use Rattle.forms.proofs.FormWords.{operandNames, formNames}
+use Rattle.forms.proofs.SoundForms.{list-row, passes}
 
 -- ---- implicit clocks are counted, to 33
 counted-one : (j m : ℕ) → j ≡ min 33 m → counted j ≡ min 33 (m + 1)
@@ -41,14 +44,14 @@ with-clocks s r = go (leb 32 (s .count))
     go true = refl
     go false = refl
 
+pair-clocks : (s : Inner) (d : Definition) (u v : ℕ) (n : Parameter) (m a b : ℕ) → s .clocks ≡ min 33 (m + a + b) → withImplicit s (sides (Defines d) u v n) .clocks ≡ min 33 (m + suc (a + b))
+pair-clocks s d u v n m a b e = with-clocks s (sides (Defines d) u v n) ∙ counted-one _ (m + a + b) e ∙ omega arith
+
 module _ (t : List ℕ) (ns : Names) where
   placed-clocks : (x : Operand) (s : Inner) (m : ℕ) → s .clocks ≡ min 33 m → placed t ns s x .left .clocks ≡ min 33 (m + implicits x)
   placed-clocks (name w) s m e = e ∙ omega arith
-  placed-clocks (both-inside k x y) s m e =
-      let p = placed-clocks x s m e in
-      let q = placed-clocks y (placed t ns s x .left) (m + implicits x) p in
-      with-clocks (placed t ns (placed t ns s x .left) y .left) (sides (Defines k) (placed t ns s x .clock) (placed t ns (placed t ns s x .left) y .clock) (record { 0 = 0 }))
-      ∙ counted-one _ (m + implicits x + implicits y) q ∙ omega arith
+  placed-clocks (both-inside k x y) s m e = pair-clocks (placed t ns (placed t ns s x .left) y .left) _ _ _ _ m (implicits x) (implicits y) (placed-clocks y (placed t ns s x .left) (m + implicits x) (placed-clocks x s m e))
+  placed-clocks (delays-inside ms x y) s m e = pair-clocks (placed t ns (placed t ns s x .left) y .left) _ _ _ _ m (implicits x) (implicits y) (placed-clocks y (placed t ns s x .left) (m + implicits x) (placed-clocks x s m e))
   placed-clocks (awaits-inside n x) s m e =
       with-clocks (placed t ns s x .left) (sides (Defines AwaitKind) (placed t ns s x .clock) 0 (record { 0 = parameterOf n }))
       ∙ counted-one _ (m + implicits x) (placed-clocks x s m e) ∙ omega arith
@@ -57,27 +60,59 @@ module _ (t : List ℕ) (ns : Names) where
   form-clocks (relates k x y) s m e = placed-clocks y (placed t ns s x .left) (m + implicits x) (placed-clocks x s m e) ∙ omega arith
   form-clocks (defines c (both k x y)) s m e = placed-clocks y (placed t ns s x .left) (m + implicits x) (placed-clocks x s m e) ∙ omega arith
   form-clocks (defines c (awaits n x)) s m e = placed-clocks x s m e
+  form-clocks (defines c (delays ms x y)) s m e = placed-clocks y (placed t ns s x .left) (m + implicits x) (placed-clocks x s m e) ∙ omega arith
 
--- ---- await numbers that 14 lets pass
-abbrev Inside : List ℕ → Type 0
-Inside [] = Unit {0}
-Inside (k ∷ ks) = (parameterOf k ≡ k) × Inside ks
+-- ---- await numbers that 14 lets pass, and lists of delays that 22 does: they are kept as they are
+module _ {A : Type 0} (P : A → Type 0) where
+  abbrev Inside : List A → Type 0
+  Inside [] = Unit {0}
+  Inside (k ∷ ks) = P k × Inside ks
 
-inside-left : (ks ls : List ℕ) → Inside (ks ++ ls) → Inside ks
-inside-left [] ls h = tt
-inside-left (k ∷ ks) ls h = (h .0, inside-left ks ls (h .1))
+  inside-left : (ks ls : List A) → Inside (ks ++ ls) → Inside ks
+  inside-left [] ls h = tt
+  inside-left (k ∷ ks) ls h = (h .0, inside-left ks ls (h .1))
 
-inside-right : (ks ls : List ℕ) → Inside (ks ++ ls) → Inside ls
-inside-right [] ls h = h
-inside-right (k ∷ ks) ls h = inside-right ks ls (h .1)
+  inside-right : (ks ls : List A) → Inside (ks ++ ls) → Inside ls
+  inside-right [] ls h = h
+  inside-right (k ∷ ks) ls h = inside-right ks ls (h .1)
 
-pub all-inside : (ks : List ℕ) → (Some (λ k. 1 ≤ k → k ≤ 1_000_000 → ⊥) ks → ⊥) → Inside ks
-all-inside [] f = tt
-all-inside (k ∷ ks) f = (go (leb k 1_000_000) refl, all-inside ks (λ s. f (later s)))
+  all-inside : (Q : A → Type 0) → ((k : A) → (Q k → ⊥) → P k) → (ks : List A) → (Some Q ks → ⊥) → Inside ks
+  all-inside Q one [] f = tt
+  all-inside Q one (k ∷ ks) f = (one k (λ q. f (here q)), all-inside Q one ks (λ s. f (later s)))
+
+abbrev KeptNumber : ℕ → Type 0
+KeptNumber k = parameterOf k ≡ k
+
+abbrev KeptList : List ℕ → Type 0
+KeptList ms = listed ms ≡ packed ms
+
+-- of numbers and lists, those of one operand and of another
+pub record Kept (ks : List ℕ) (ls : List (List ℕ)) : Type 0 where
+  numbers : Inside KeptNumber ks
+  lists : Inside KeptList ls
+
+kept-left : (ks js : List ℕ) (ls ms : List (List ℕ)) → Kept (ks ++ js) (ls ++ ms) → Kept ks ls
+kept-left ks js ls ms h = record { numbers = inside-left KeptNumber ks js (h .numbers); lists = inside-left KeptList ls ms (h .lists) }
+
+kept-right : (ks js : List ℕ) (ls ms : List (List ℕ)) → Kept (ks ++ js) (ls ++ ms) → Kept js ms
+kept-right ks js ls ms h = record { numbers = inside-right KeptNumber ks js (h .numbers); lists = inside-right KeptList ls ms (h .lists) }
+
+-- the list of a delay stands behind those of its operands
+list-apart : {ks : List ℕ} (ls js : List (List ℕ)) (ms : List ℕ) → Kept ks (ls ++ (js ++ ms ∷ [])) → Kept ks (ls ++ js) × KeptList ms
+list-apart ls js ms h = (
+  record { numbers = h .numbers; lists = inside-left KeptList (ls ++ js) (ms ∷ []) (rw append-assoc (h .lists)) },
+  inside-right KeptList js (ms ∷ []) (inside-right KeptList ls (js ++ ms ∷ []) (h .lists)) .0,
+)
+
+pub kept-all : (ks : List ℕ) (ls : List (List ℕ)) → (Some (λ k. 1 ≤ k → k ≤ 1_000_000 → ⊥) ks → ⊥) → (Some ListOutside ls → ⊥) → Kept ks ls
+kept-all ks ls f g = record {
+  numbers = all-inside KeptNumber _ (λ k f. number k (leb k 1_000_000) refl f) ks f;
+  lists = all-inside KeptList ListOutside (λ ms f. rw (passes (isList ms) (list-row ms) f)) ls g;
+}
   where
-    go : (x : Bool) → leb k 1_000_000 ≡ x → cond x k 0 ≡ k
-    go true e = refl
-    go false e = let h : 1_000_000 < k = leb-false k 1_000_000 e in absurd (f (here (λ a b. omega arith)))
+    number : (k : ℕ) (x : Bool) → leb k 1_000_000 ≡ x → ((1 ≤ k → k ≤ 1_000_000 → ⊥) → ⊥) → cond x k 0 ≡ k
+    number k true e f = refl
+    number k false e f = let h : 1_000_000 < k = leb-false k 1_000_000 e in absurd (f (λ a b. omega arith))
 
 -- ---- the definitions of implicit clocks, which have no room in the set of clocks that are defined
 abbrev pub High : List Constraint → Type 0
@@ -162,48 +197,76 @@ module _ (t : List ℕ) (ns : Names) (us : Words) (n : ℕ) (number : (w : Word)
       let c : ltb m 33 ≡ true = lt-ltb m 33 (omega arith) in
       (rw (h .clocks, c), subst (Stands (enclosed f .left) (m + 1) (j + 1)) (append-assoc ds es _ ∙ ap (λ (z : Constraint). ds ++ (es ++ z ∷ [])) e) (with-stands (f .left) m j (ds ++ es) (f .constraint) h k))
 
-  both-record : (d : Definition) (a b v w c : ℕ) → a ≡ v → b ≡ w → onItsLine n (defining c (sides (Defines d) a b (record { 0 = 0 }))) ≡ record { kind = Defines d; defined = c; first = v; second = w; parameter = record { 0 = 0 }; line = record { 0 = n } }
-  both-record d a b v w c p q = rw (p, q)
+  both-record : (d : Definition) (a b v w c k l : ℕ) → a ≡ v → b ≡ w → k ≡ l
+      → onItsLine n (defining c (sides (Defines d) a b (record { 0 = k }))) ≡ record { kind = Defines d; defined = c; first = v; second = w; parameter = record { 0 = l }; line = record { 0 = n } }
+  both-record d a b v w c k l p q r = rw (p, q, r)
 
   await-record : (a v c k l : ℕ) → a ≡ v → k ≡ l → onItsLine n (defining c (sides (Defines AwaitKind) a 0 (record { 0 = k }))) ≡ record { kind = Defines AwaitKind; defined = c; first = v; second = 0; parameter = record { 0 = l }; line = record { 0 = n } }
-  await-record a v c k l p q = rw (p, q)
+  await-record a v c k l p q = both-record AwaitKind a 0 v 0 c k l p refl q
 
-  placed-stands : (x : Operand) (s : Inner) (m j : ℕ) (ds : List Constraint) → AllOf us (operandNames x) → Inside (operandNumbers x) → m + implicits x ≤ 32 → Stands s m j ds → IsPlaced x s m j ds
+  abbrev Places : Operand → Type 0
+  Places x = (s : Inner) (m j : ℕ) (ds : List Constraint) → AllOf us (operandNames x) → Kept (operandNumbers x) (operandLists x) → m + implicits x ≤ 32 → Stands s m j ds → IsPlaced x s m j ds
+
+  module _ (x y : Operand) (f : Places x) (g : Places y) (s : Inner) (m j : ℕ) (ds : List Constraint) (a : AllOf us (operandNames x ++ operandNames y))
+      (i : Kept (operandNumbers x ++ operandNumbers y) (operandLists x ++ operandLists y)) (h : Stands s m j ds) where
+    both-stand : m + (implicits x + implicits y) ≤ 32 → Both x y s m j ds
+    both-stand k =
+        let p = f s m j ds (all-left us (operandNames x) (operandNames y) a) (kept-left (operandNumbers x) (operandNumbers y) (operandLists x) (operandLists y) i) (omega arith) h in
+        let q = g (placed t ns s x .left) (m + implicits x) (j + implicits x) (ds ++ operandRecords us 32 n m x) (all-right us (operandNames x) (operandNames y) a) (kept-right (operandNumbers x) (operandNumbers y) (operandLists x) (operandLists y) i) (omega arith) (p .left) in
+        both-placed x y s m j ds p q
+
+    -- in parentheses, with a parameter
+    both-inside-stand : (d : Definition) (b c : ℕ) → b ≡ c → m + suc (implicits x + implicits y) ≤ 32
+        → (let e = enclosed (record { left = placed t ns (placed t ns s x .left) y .left; constraint = sides (Defines d) (placed t ns s x .clock) (placed t ns (placed t ns s x .left) y .clock) (record { 0 = b }) }) in
+        (e .clock ≡ 32 + (m + (implicits x + implicits y)))
+        × Stands (e .left) (m + suc (implicits x + implicits y)) (j + suc (implicits x + implicits y))
+        (ds ++ ((operandRecords us 32 n m x ++ operandRecords us 32 n (m + implicits x) y)
+        ++ record { kind = Defines d; defined = 32 + (m + (implicits x + implicits y)); first = clockOf us 32 n m x; second = clockOf us 32 n (m + implicits x) y; parameter = record { 0 = c }; line = record { 0 = n } } ∷ [])))
+    both-inside-stand d b c q k =
+        let r = rooms m (implicits x) (implicits y) k in
+        let o = both-stand (omega arith) in
+        let f : Formed Inner = record { left = placed t ns (placed t ns s x .left) y .left; constraint = sides (Defines d) (placed t ns s x .clock) (placed t ns (placed t ns s x .left) y .clock) (record { 0 = b }) } in
+        let e = inside-stands f (m + (implicits x + implicits y)) (j + (implicits x + implicits y)) ds _ _ (r .2) (both-record d _ _ _ _ _ _ _ (o .first) (o .second) q) (o .left) in
+        (e .0, stands-as _ _ _ _ _ _ _ (add-suc m (implicits x + implicits y)) (add-suc j (implicits x + implicits y)) refl (e .1))
+
+  placed-stands : (x : Operand) → Places x
   placed-stands (name w) s m j ds a i k h = record {
     clock = number w (a .0);
     left = stands-as s m (m + 0) j (j + 0) ds (ds ++ []) (sym (add-zero m)) (sym (add-zero j)) (sym (append-nil ds)) h;
   }
   placed-stands (both-inside d x y) s m j ds a i k h =
-      let r = rooms m (implicits x) (implicits y) k in
-      let p = placed-stands x s m j ds (all-left us (operandNames x) (operandNames y) a) (inside-left (operandNumbers x) (operandNumbers y) i) (r .0) h in
-      let q = placed-stands y (placed t ns s x .left) (m + implicits x) (j + implicits x) (ds ++ operandRecords us 32 n m x) (all-right us (operandNames x) (operandNames y) a) (inside-right (operandNumbers x) (operandNumbers y) i) (r .1) (p .left) in
-      let b = both-placed x y s m j ds p q in
-      let f : Formed Inner = record { left = placed t ns (placed t ns s x .left) y .left; constraint = sides (Defines d) (placed t ns s x .clock) (placed t ns (placed t ns s x .left) y .clock) (record { 0 = 0 }) } in
-      let e = inside-stands f (m + (implicits x + implicits y)) (j + (implicits x + implicits y)) ds _ _ (r .2) (both-record d _ _ _ _ _ (b .first) (b .second)) (b .left) in
-      record { clock = e .0; left = stands-as _ _ _ _ _ _ _ (add-suc m (implicits x + implicits y)) (add-suc j (implicits x + implicits y)) refl (e .1) }
+      let e = both-inside-stand x y (placed-stands x) (placed-stands y) s m j ds a i h d 0 0 refl k in
+      record { clock = e .0; left = e .1 }
   placed-stands (awaits-inside l x) s m j ds a i k h =
       let r = room-one m (implicits x) k in
-      let p = placed-stands x s m j ds a (i .1) (r .0) h in
+      let p = placed-stands x s m j ds a (record { numbers = i .numbers .1; lists = i .lists }) (r .0) h in
       let f : Formed Inner = record { left = placed t ns s x .left; constraint = sides (Defines AwaitKind) (placed t ns s x .clock) 0 (record { 0 = parameterOf l }) } in
-      let e = inside-stands f (m + implicits x) (j + implicits x) ds _ _ (r .1) (await-record _ _ _ _ _ (p .clock) (i .0)) (p .left) in
+      let e = inside-stands f (m + implicits x) (j + implicits x) ds _ _ (r .1) (await-record _ _ _ _ _ (p .clock) (i .numbers .0)) (p .left) in
       record { clock = e .0; left = stands-as _ _ _ _ _ _ _ (add-suc m (implicits x)) (add-suc j (implicits x)) refl (e .1) }
+  placed-stands (delays-inside ms x y) s m j ds a i k h =
+      let l = list-apart (operandLists x) (operandLists y) ms i in
+      let e = both-inside-stand x y (placed-stands x) (placed-stands y) s m j ds a (l .0) h Deferred (listed ms) (packed ms) (l .1) k in
+      record { clock = e .0; left = e .1 }
 
   -- ---- forms
   pub record IsFormed (f : Form Operand) (s : Inner) (m : ℕ) : Type 0 where
     pub own : onItsLine n (formOf t ns s f .constraint) ≡ ownRecord us 32 n m f
     pub left : Stands (formOf t ns s f .left) (m + formImplicits f) (formImplicits f) (formRecords us 32 n m f)
 
-  pub form-stands : (f : Form Operand) (s : Inner) (m : ℕ) → AllOf us (formNames f) → Inside (awaitNumbers f) → m + formImplicits f ≤ 32 → Stands s m 0 [] → IsFormed f s m
+  two-stand : (x y : Operand) (s : Inner) (m : ℕ) → AllOf us (operandNames x ++ operandNames y) → Kept (operandNumbers x ++ operandNumbers y) (operandLists x ++ operandLists y) → m + (implicits x + implicits y) ≤ 32 → Stands s m 0 [] → Both x y s m 0 []
+  two-stand x y s m a i h g = both-stand x y (placed-stands x) (placed-stands y) s m 0 [] a i g h
+
+  pub form-stands : (f : Form Operand) (s : Inner) (m : ℕ) → AllOf us (formNames f) → Kept (awaitNumbers f) (delayLists f) → m + formImplicits f ≤ 32 → Stands s m 0 [] → IsFormed f s m
   form-stands (relates k x y) s m a i h g =
-      let p = placed-stands x s m 0 [] (all-left us (operandNames x) (operandNames y) a) (inside-left (operandNumbers x) (operandNumbers y) i) (omega arith) g in
-      let q = placed-stands y (placed t ns s x .left) (m + implicits x) (0 + implicits x) ([] ++ operandRecords us 32 n m x) (all-right us (operandNames x) (operandNames y) a) (inside-right (operandNumbers x) (operandNumbers y) i) (omega arith) (p .left) in
-      let b = both-placed x y s m 0 [] p q in
+      let b = two-stand x y s m a i h g in
       record { own = rw (b .first, b .second); left = stands-as _ _ _ _ _ _ _ refl (omega arith) refl (b .left) }
   form-stands (defines c (both k x y)) s m a i h g =
-      let p = placed-stands x s m 0 [] (all-left us (operandNames x) (operandNames y) (a .1)) (inside-left (operandNumbers x) (operandNumbers y) i) (omega arith) g in
-      let q = placed-stands y (placed t ns s x .left) (m + implicits x) (0 + implicits x) ([] ++ operandRecords us 32 n m x) (all-right us (operandNames x) (operandNames y) (a .1)) (inside-right (operandNumbers x) (operandNumbers y) i) (omega arith) (p .left) in
-      let b = both-placed x y s m 0 [] p q in
+      let b = two-stand x y s m (a .1) i h g in
       record { own = rw (number c (a .0), b .first, b .second); left = stands-as _ _ _ _ _ _ _ refl (omega arith) refl (b .left) }
   form-stands (defines c (awaits l x)) s m a i h g =
-      let p = placed-stands x s m 0 [] (a .1) (i .1) (omega arith) g in
-      record { own = rw (number c (a .0), p .clock, i .0); left = stands-as _ _ _ _ _ _ _ refl (omega arith) refl (p .left) }
+      let p = placed-stands x s m 0 [] (a .1) (record { numbers = i .numbers .1; lists = i .lists }) (omega arith) g in
+      record { own = rw (number c (a .0), p .clock, i .numbers .0); left = stands-as _ _ _ _ _ _ _ refl (omega arith) refl (p .left) }
+  form-stands (defines c (delays ms x y)) s m a i h g =
+      let l = list-apart (operandLists x) (operandLists y) ms i in
+      let b = two-stand x y s m (a .1) (l .0) h g in
+      record { own = rw (number c (a .0), b .first, b .second, l .1); left = stands-as _ _ _ _ _ _ _ refl (omega arith) refl (b .left) }

@@ -13,7 +13,7 @@ use lib.ListN.{length, take, drop, getD, drop-of-length-le}
 use lib.Seq.{drop-cons}
 use Rattle.limit.specs.Checked.{Checked, passed, stopped, andThen}
 use Rattle.limit.specs.declared.Limit.{Limit}
-use Rattle.limit.specs.declared.Limit.the-variants.{TableLength, LineByte, NestingDepth, Unpaired, LineForm, NameLength, AwaitNumber, ClockTwice, DefinedTwice, TableClocks, TableConstraints}
+use Rattle.limit.specs.declared.Limit.the-variants.{TableLength, LineByte, NestingDepth, Unpaired, LineForm, NameLength, AwaitNumber, DelayNumber, ClockTwice, DefinedTwice, TableClocks, TableConstraints}
 use Rattle.limit.proofs.CheckLaws.{refuses, allows, stays-stopped, goes-to}
 use Rattle.constraint.specs.Meaning.{definedOf}
 use Rattle.constraint.specs.Ticks.{any, bits}
@@ -32,7 +32,7 @@ use Rattle.grammar.specs.declared.Inner.{Inner}
 use Rattle.grammar.specs.declared.Names.{Names}
 use Rattle.grammar.specs.declared.Table.{Table}
 use Rattle.table.specs.Answers.{flawsOf, wordFlaws, either, Tells, asks, settled}
-use Rattle.table.specs.Reader.{anyWord, longName, badNumber, twice, manyClocks, manyConstraints, addLine, formStep, wordsStep, filledStep, blank, lineStep, tellOf, readLines, mostBytes, readTable}
+use Rattle.table.specs.Reader.{anyWord, longName, badNumber, badList, twice, manyClocks, manyConstraints, addLine, formStep, wordsStep, filledStep, blank, lineStep, tellOf, readLines, mostBytes, readTable}
 use Rattle.table.specs.declared.Flaws.{Flaws}
 use Rattle.table.specs.declared.Repeats.{Repeats}
 use Rattle.table.specs.declared.Repeats.the-variants.{Perhaps, Never, Surely}
@@ -57,7 +57,7 @@ module _ (p : Span → List Span → Bool) (ws : List Span) where
     pub any-more : anyWord p us ≡ true → anyWord p ws ≡ true
     any-more q = any-turn ∙ rw q (or-true (p w us))
 
--- ---- the three tests in one walk
+-- ---- the four tests in one walk
 pub or-none : (x : Bool) → (x || false) ≡ x
 or-none true = refl
 or-none false = refl
@@ -70,18 +70,19 @@ either-assoc : (a b c : Flaws) → either a (either b c) ≡ either (either a b)
 either-assoc a b c = λ i. record {
   long = or-assoc (a .long) (b .long) (c .long) i;
   bad = or-assoc (a .bad) (b .bad) (c .bad) i;
+  list = or-assoc (a .list) (b .list) (c .list) i;
   twice = or-assoc (a .twice) (b .twice) (c .twice) i;
 }
 
 module _ (t : List ℕ) (ask : Bool) (f : Flaws) (ws : List Span) where
   pub flaws-done : ws ≡ [] → either f (flawsOf t ask ws) ≡ f
   flaws-done e =
-      rw (any-done (longName t) ws e, any-done (badNumber t) ws e, any-done (twice t) ws e, and-false ask, or-none (f .long), or-none (f .bad), or-none (f .twice))
+      rw (any-done (longName t) ws e, any-done (badNumber t) ws e, any-done (badList t) ws e, any-done (twice t) ws e, and-false ask, or-none (f .long), or-none (f .bad), or-none (f .list), or-none (f .twice))
 
   module _ (w : Span) (us : List Span) (e : ws ≡ w ∷ us) where
     flaws-turn : flawsOf t ask ws ≡ either (wordFlaws t ask w us) (flawsOf t ask us)
     flaws-turn =
-        rw (any-turn (longName t) ws w us e, any-turn (badNumber t) ws w us e, any-turn (twice t) ws w us e, and-or-distrib-left ask (twice t w us) (anyWord (twice t) us))
+        rw (any-turn (longName t) ws w us e, any-turn (badNumber t) ws w us e, any-turn (badList t) ws w us e, any-turn (twice t) ws w us e, and-or-distrib-left ask (twice t w us) (anyWord (twice t) us))
 
     pub flaws-on : either f (flawsOf t ask ws) ≡ either (either f (wordFlaws t ask w us)) (flawsOf t ask us)
     flaws-on = ap (either f) flaws-turn ∙ either-assoc f (wordFlaws t ask w us) (flawsOf t ask us)
@@ -181,13 +182,18 @@ module _ (t : List ℕ) (n : ℕ) (b : Builder) (ns : Names) (ws : List Span) (p
       refused-14 x = rw e (allows _ _ _ _ p13 ∙ refuses _ _ _ _ x)
 
       module _ (p14 : anyWord (badNumber t) ws ≡ false) where
-        pub refused-15 : anyWord (twice t) ws ≡ true → formStep t n b ns ws p ≡ stopped ClockTwice n
+        pub refused-22 : anyWord (badList t) ws ≡ true → formStep t n b ns ws p ≡ stopped DelayNumber n
         unfolding formStep
-        refused-15 x = rw e (allows _ _ _ _ p13 ∙ (allows _ _ _ _ p14 ∙ refuses _ _ _ _ x))
+        refused-22 x = rw e (allows _ _ _ _ p13 ∙ (allows _ _ _ _ p14 ∙ refuses _ _ _ _ x))
 
-        pub to-add : anyWord (twice t) ws ≡ false → formStep t n b ns ws p ≡ addLine n b ns (f .left) (f .constraint)
-        unfolding formStep
-        to-add x = rw e (allows _ _ _ _ p13 ∙ (allows _ _ _ _ p14 ∙ allows _ _ _ _ x))
+        module _ (p22 : anyWord (badList t) ws ≡ false) where
+          pub refused-15 : anyWord (twice t) ws ≡ true → formStep t n b ns ws p ≡ stopped ClockTwice n
+          unfolding formStep
+          refused-15 x = rw e (allows _ _ _ _ p13 ∙ (allows _ _ _ _ p14 ∙ (allows _ _ _ _ p22 ∙ refuses _ _ _ _ x)))
+
+          pub to-add : anyWord (twice t) ws ≡ false → formStep t n b ns ws p ≡ addLine n b ns (f .left) (f .constraint)
+          unfolding formStep
+          to-add x = rw e (allows _ _ _ _ p13 ∙ (allows _ _ _ _ p14 ∙ (allows _ _ _ _ p22 ∙ allows _ _ _ _ x)))
 
 module _ (t : List ℕ) (n : ℕ) (b : Builder) (from : ℕ) where
   pub refused-11 : allBytes (inClass Printable) (drop from t) ≡ false → filledStep t n b from ≡ stopped LineByte n

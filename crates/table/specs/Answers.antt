@@ -1,4 +1,4 @@
--- Of the code's shape: what a line's reader in code answers stands for; the checks 19 and 20 of a line's bytes, and 13, 14 and 15 of its words,
+-- Of the code's shape: what a line's reader in code answers stands for; the checks 19 and 20 of a line's bytes, and 13, 14, 22 and 15 of its words,
 -- each asked in one walk over them; and the keys of names, by which 15 may be known before it is asked. Assumes nothing.
 use mathlib.Core.Path.{_≡_}
 use mathlib.Core.Bool.{Bool, true, false, _&&_, _||_}
@@ -10,7 +10,7 @@ use Rattle.text.specs.declared.Span.{Span}
 use Rattle.forms.specs.Lines.{tooDeep, unpaired}
 use Rattle.grammar.specs.Building.{withLine}
 use Rattle.grammar.specs.declared.Builder.{Builder}
-use Rattle.table.specs.Reader.{anyWord, longName, badNumber, twice}
+use Rattle.table.specs.Reader.{anyWord, longName, badNumber, badList, twice}
 use Rattle.table.specs.declared.Flaws.{Flaws}
 use Rattle.table.specs.declared.LineRead.{LineRead}
 use Rattle.table.specs.declared.Pairing.{Pairing}
@@ -26,13 +26,13 @@ pairing l = record { deep = tooDeep 0 l; unpaired = unpaired 0 l }
 
 -- of some words, one of which is to fail; of one word, with those after it; and of either. 15 fails only where it is asked
 abbrev pub flawsOf : List ℕ → (ask : Bool) → List Span → Flaws
-flawsOf t ask ws = record { long = anyWord (longName t) ws; bad = anyWord (badNumber t) ws; twice = ask && anyWord (twice t) ws }
+flawsOf t ask ws = record { long = anyWord (longName t) ws; bad = anyWord (badNumber t) ws; list = anyWord (badList t) ws; twice = ask && anyWord (twice t) ws }
 
 abbrev pub wordFlaws : List ℕ → (ask : Bool) → Span → List Span → Flaws
-wordFlaws t ask w ws = record { long = longName t w ws; bad = badNumber t w ws; twice = ask && twice t w ws }
+wordFlaws t ask w ws = record { long = longName t w ws; bad = badNumber t w ws; list = badList t w ws; twice = ask && twice t w ws }
 
 abbrev pub either : Flaws → Flaws → Flaws
-either a b = record { long = a .long || b .long; bad = a .bad || b .bad; twice = a .twice || b .twice }
+either a b = record { long = a .long || b .long; bad = a .bad || b .bad; list = a .list || b .list; twice = a .twice || b .twice }
 
 -- ---- names with different keys are different
 

@@ -12,13 +12,13 @@ use Rattle.grammar.specs.Tokens.{lookUp, shapeOf}
 use Rattle.table.specs.Reader.{anyWord, addLine, formStep, read, refused, readLines, readTable}
 
 one-line : readTable (ascii "a = b") .said ≡ read
-unfolding readTable readLines tooDeep unpaired addLine formStep anyWord andThen g.andThen g.onlyIf g.name g.inner g.operand g.kindAt g.second g.pair g.awaitSide g.expression g.atEnd g.lineForm pieces grown tokens filled front rest allBytes sameBytes lookUp shapeOf position unlessFound withWords number value
+unfolding readTable readLines tooDeep unpaired addLine formStep anyWord andThen g.andThen g.onlyIf g.name g.inner g.operand g.kindAt g.tail g.second g.pair g.awaitSide g.expression g.atEnd g.lineForm pieces grown tokens filled front rest allBytes sameBytes lookUp shapeOf position unlessFound withWords number value
 one-line = refl
 
 no-form : readTable (ascii "a lub b") .said ≡ refused 12 1
-unfolding readTable readLines tooDeep unpaired addLine formStep anyWord andThen g.andThen g.onlyIf g.name g.inner g.operand g.kindAt g.second g.pair g.awaitSide g.expression g.atEnd g.lineForm pieces grown tokens filled front rest allBytes sameBytes lookUp shapeOf position unlessFound withWords number value
+unfolding readTable readLines tooDeep unpaired addLine formStep anyWord andThen g.andThen g.onlyIf g.name g.inner g.operand g.kindAt g.tail g.second g.pair g.awaitSide g.expression g.atEnd g.lineForm pieces grown tokens filled front rest allBytes sameBytes lookUp shapeOf position unlessFound withWords number value
 no-form = refl
 
 clock-twice : readTable (ascii "a = a") .said ≡ refused 15 1
-unfolding readTable readLines tooDeep unpaired addLine formStep anyWord andThen g.andThen g.onlyIf g.name g.inner g.operand g.kindAt g.second g.pair g.awaitSide g.expression g.atEnd g.lineForm pieces grown tokens filled front rest allBytes sameBytes lookUp shapeOf position unlessFound withWords number value
+unfolding readTable readLines tooDeep unpaired addLine formStep anyWord andThen g.andThen g.onlyIf g.name g.inner g.operand g.kindAt g.tail g.second g.pair g.awaitSide g.expression g.atEnd g.lineForm pieces grown tokens filled front rest allBytes sameBytes lookUp shapeOf position unlessFound withWords number value
 clock-twice = refl

@@ -10,7 +10,7 @@ use Rattle.limit.specs.Checked.{Checked, passed, stopped, refuseIf, andThen}
 use Rattle.limit.specs.Limit.{numberOf}
 use Rattle.limit.specs.declared.Check.{Check}
 use Rattle.limit.specs.declared.Check.the-variants.{Passed, Refused}
-use Rattle.limit.specs.declared.Limit.the-variants.{TableLength, LineByte, NestingDepth, Unpaired, LineForm, NameLength, AwaitNumber, ClockTwice, DefinedTwice, TableClocks, TableConstraints}
+use Rattle.limit.specs.declared.Limit.the-variants.{TableLength, LineByte, NestingDepth, Unpaired, LineForm, NameLength, AwaitNumber, DelayNumber, ClockTwice, DefinedTwice, TableClocks, TableConstraints}
 use Rattle.constraint.specs.Lists.{slots, brokenRecord, brokenWord, startWords}
 use Rattle.constraint.specs.Meaning.{definedOf}
 use Rattle.constraint.specs.Ticks.{any, bits}
@@ -22,14 +22,14 @@ use Rattle.text.specs.declared.Class.the-variants.{Newline, Space, Printable}
 use Rattle.text.specs.declared.Span.{Span}
 use Rattle.forms.specs.Lines.{tooDeep, unpaired}
 use Rattle.grammar.specs.Building.{emptyTable, start, noInner, withLine, finish, clocksIn}
-use Rattle.grammar.specs.Grammar.{Parsed, noForm, parsed, Formed, lineWords, awaitNumber, levels, formIn}
+use Rattle.grammar.specs.Grammar.{Parsed, noForm, parsed, Formed, lineWords, awaitNumber, delayList, levels, formIn}
 use Rattle.grammar.specs.Names.{withWords}
 use Rattle.grammar.specs.Tokens.{is, tokenOf}
 use Rattle.grammar.specs.declared.Builder.{Builder}
 use Rattle.grammar.specs.declared.Inner.{Inner}
 use Rattle.grammar.specs.declared.Names.{Names}
 use Rattle.grammar.specs.declared.Table.{Table}
-use Rattle.grammar.specs.declared.Token.the-variants.{Name, Await}
+use Rattle.grammar.specs.declared.Token.the-variants.{Name, Await, For}
 use Rattle.table.specs.declared.TableRead.{TableRead}
 
 -- ---- what is asked of a word w of a line that has a form; ws are the words after it
@@ -49,6 +49,10 @@ longName t w ws = is Name (tokenOf (bytesOf t w)) && ltb 16 (length (bytesOf t w
 -- 14: await number outside 1 to 1,000,000
 abbrev pub badNumber : List ℕ → Span → List Span → Bool
 badNumber t w ws = is Await (tokenOf (bytesOf t w)) && eqb (awaitNumber (bytesOf t (front t ws))) 0
+
+-- 22: list of delays out of range, none included
+abbrev pub badList : List ℕ → Span → List Span → Bool
+badList t w ws = is For (tokenOf (bytesOf t w)) && eqb (delayList t ws) 0
 
 -- 15: a clock named twice in the line
 abbrev pub twice : List ℕ → Span → List Span → Bool
@@ -72,14 +76,15 @@ addLine n b ns s r =
     (refuseIf (manyConstraints b s) TableConstraints n
     (passed (withLine n b ns s r))))
 
--- 12 no form fits; then 13, 14, 15, and 16 to 18. The names have those of the line
+-- 12 no form fits; then 13, 14, 22, 15, and 16 to 18. The names have those of the line
 unfoldable pub formStep : List ℕ → ℕ → Builder → Names → List Span → Parsed (Formed Inner) → Checked Builder
 formStep t n b ns ws noForm = stopped LineForm n
 formStep t n b ns ws (parsed f us) =
     refuseIf (anyWord (longName t) ws) NameLength n
     (refuseIf (anyWord (badNumber t) ws) AwaitNumber n
+    (refuseIf (anyWord (badList t) ws) DelayNumber n
     (refuseIf (anyWord (twice t) ws) ClockTwice n
-    (addLine n b ns (f .left) (f .constraint))))
+    (addLine n b ns (f .left) (f .constraint)))))
 
 -- the clocks are numbered in the order in which the words stand
 abbrev pub wordsStep : List ℕ → ℕ → Builder → List Span → Checked Builder

@@ -1,5 +1,5 @@
-// Table text into records and names, or the first refusal of 10 to 20: document 01, "Table text" and the first two rows of
-// "Where each refusal is checked"; document 02, M-101.
+// Table text into records and names, or the first refusal of 10 to 20 and 22: document 01, "Table text" and the first two rows of
+// "Where each refusal is checked"; document 02, M-101 and M-105.
 
 mod reader;
 
@@ -22,10 +22,12 @@ pub struct Pairing {
     pub unpaired: bool,
 }
 
-// Which of the checks 13, 14 and 15 some words fail: a name over 16 bytes, an await number outside, a clock named twice.
+// Which of the checks 13, 14, 22 and 15 some words fail: a name over 16 bytes, an await number outside, a list of delays out of range, a clock
+// named twice.
 pub struct Flaws {
     pub long: bool,
     pub bad: bool,
+    pub list: bool,
     pub twice: bool,
 }
 

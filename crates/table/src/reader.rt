@@ -10,12 +10,13 @@ use grammar::Inner;
 use grammar::Names;
 use grammar::Token;
 use grammar::WordRead;
-use grammar::await_number;
+use grammar::delay_list;
 use grammar::empty_table;
 use grammar::finish;
 use grammar::is;
 use grammar::line_form;
 use grammar::no_inner;
+use grammar::number_up_to;
 use grammar::start;
 use grammar::with_line;
 use grammar::with_words;
@@ -142,6 +143,7 @@ fn word_flaws(line: &[u8], ask: bool, word: WordRead) -> Flaws
         return Flaws {
             long: 16 < bytes.len(),
             bad: false,
+            list: false,
             twice: stands_again(line, ask, span, span.end),
         };
     }
@@ -149,13 +151,24 @@ fn word_flaws(line: &[u8], ask: bool, word: WordRead) -> Flaws
         let number = text::next_word(Class::Space, line, span.end);
         return Flaws {
             long: false,
-            bad: await_number(text::part(line, number)) == 0,
+            bad: number_up_to(1000000, text::part(line, number)) == 0,
+            list: false,
+            twice: false,
+        };
+    }
+    if is(Token::For, word) {
+        let read = delay_list(line, span.end);
+        return Flaws {
+            long: false,
+            bad: false,
+            list: read.list == 0,
             twice: false,
         };
     }
     Flaws {
         long: false,
         bad: false,
+        list: false,
         twice: false,
     }
 }
@@ -252,6 +265,7 @@ fn either(one: Flaws, other: Flaws) -> Flaws
     Flaws {
         long: one.long | other.long,
         bad: one.bad | other.bad,
+        list: one.list | other.list,
         twice: one.twice | other.twice,
     }
 }
@@ -263,6 +277,7 @@ fn flaws(line: &[u8], ask: bool, from: usize) -> Flaws
     let mut found = Flaws {
         long: false,
         bad: false,
+        list: false,
         twice: false,
     };
     let mut at = from;
@@ -336,7 +351,7 @@ fn add_line(
     }
 }
 
-// Checks 12 to 18 of a line's words.
+// Checks 12 to 18 and 22 of a line's words.
 fn read_words(line: &[u8], builder: Builder, place: Place, from: usize) -> LineRead
     ensures { λ r. ⌜ a.lineRead (place .0) builder r ≡ d.wordsStep (now (line .entry)) (place .0) builder (lineWords (now (line .entry)) from) ⌝ }
 {
@@ -354,6 +369,9 @@ fn read_words(line: &[u8], builder: Builder, place: Place, from: usize) -> LineR
     }
     if failed.bad {
         return refuse(names, inner, Limit::AwaitNumber, place);
+    }
+    if failed.list {
+        return refuse(names, inner, Limit::DelayNumber, place);
     }
     if settled(known, failed.twice) {
         return refuse(names, inner, Limit::ClockTwice, place);

@@ -47,7 +47,7 @@ returns-5 c =
     let ns = s .records .now in
     let out = s .answer .now in
     let os = s .order .now in
-    let k = length ns / 6 in
+    let k = length ns / 8 in
     let count : List ℕ = q .count ∷ [] in
     ap (λ a. orderLeft done (sets a 3 count) (listed .put-order .last .0)) (put .put-answer .ensures)
     ∙ ap (λ v. orderLeft done (sets (written (answerAnd v []) out) 3 count) (listed .put-order .last .0)) (numbers .check-numbers .ensures .1 .1)

@@ -44,8 +44,8 @@ returns-5 c =
     ∙ ap (λ v. left done (written (answerAnd v []) out) (words .last .0)) (numbers .check-numbers .ensures .1 .0)
     ∙ ap (λ w. left done (written (answerAnd (ofStart (startSaid (q .outcome))) []) out) w) (words .ensures)
     ∙ ap (λ t. startLeft t out ws) (started .start-on .ensures)
-    ∙ ap (λ rs. startLeft (startOf (clocks .clocks-of .result) (lent (length ns / 6) rs)) out ws) (records .records-of .ensures)
-    ∙ ap (λ k. startLeft (startOf k (lent (length ns / 6) (sets (replicate 66 empty) 0 (recordsOf ns)))) out ws) (clocks .clocks-of .ensures)
+    ∙ ap (λ rs. startLeft (startOf (clocks .clocks-of .result) (lent (length ns / 8) rs)) out ws) (records .records-of .ensures)
+    ∙ ap (λ k. startLeft (startOf k (lent (length ns / 8) (sets (replicate 66 empty) 0 (recordsOf ns)))) out ws) (clocks .clocks-of .ensures)
     ∙ ap (λ t. startLeft t out ws) (start-lent (clocksOf (s .named) (s .clocks)) ns)
     ∙ in-shape ns out ws _ (e1 .if1 .left) (e2 .if2 .left) (e3 .if3 .left) (sym (known .kinds-known .ensures) ∙ not-false _ (e4 .if4 .left))
 

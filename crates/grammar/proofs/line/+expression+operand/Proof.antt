@@ -13,18 +13,17 @@ use denote.Ref.{now}
 use Rattle.text.specs.Split.{rest}
 use Rattle.text.specs.declared.Span.{Span}
 use Rattle.grammar.specs.Answers.{operandRead, kindRead}
-use Rattle.grammar.specs.Grammar.{Operands, parsed, isKind, lineWords, token, operand as «operandOf»}
+use Rattle.grammar.specs.Grammar.{Operands, parsed, isKind, lineWords, token, clockAt, operand as «operandOf»}
 use Rattle.grammar.specs.Tokens.{is}
 use Rattle.grammar.specs.declared.Inner.{Inner}
 use Rattle.grammar.specs.declared.Token.the-variants.{Digits, Await, Open}
-use Rattle.grammar.proofs.GrammarLaws.{word-token, second-token, after-second, operand-not, operand-is, form-not, form-is, await-none, await-operand, await-some, pair-none, pair-kind, pair-second, pair-some, operand-flat, operand-name, operand-inner, operand-read}
+use Rattle.grammar.proofs.GrammarLaws.{word-token, second-token, after-second, operand-not, operand-is, form-not, form-is, await-none, await-operand, await-some, pair-none, pair-kind, pair-second, pair-tail, pair-some, tail-miss, tail-is, operand-flat, operand-name, operand-inner, operand-read}
 use Rattle.grammar.proofs.line.expression.Reads as expression
 use Rattle.grammar.proofs.line.expression.Kinds as expression-kinds
 use Rattle.grammar.proofs.line.+expression+operand.Lts-expression as expression-lts
 use Rattle.grammar.proofs.line.operand.Reads as operand
 use Rattle.grammar.proofs.line.operand.Kinds as operand-kinds
 use Rattle.grammar.proofs.line.+expression+operand.Lts-operand as operand-lts
-use Rattle.grammar.proofs.line.await_number.Reads as await-number-reads
 use Rattle.grammar.proofs.line.clock_at.Reads as clock-at-reads
 use Rattle.grammar.proofs.line.enclosed.Reads as enclosed-reads
 use Rattle.grammar.proofs.line.is_kind.Reads as is-kind-reads
@@ -32,6 +31,8 @@ use Rattle.grammar.proofs.line.kind_at.Reads as kind-at-reads
 use Rattle.grammar.proofs.line.name.Reads as name-reads
 use Rattle.grammar.proofs.line.no_form.Reads as no-form-reads
 use Rattle.grammar.proofs.line.sides.Reads as sides-reads
+use Rattle.grammar.proofs.line.tail.Reads as tail-reads
+use Rattle.grammar.proofs.list.number_up_to.Reads as number-up-to-reads
 use Rattle.grammar.proofs.words.is.Reads as is-reads
 use Rattle.grammar.proofs.words.word_at.Reads as word-at-reads
 use Rattle.text.proofs.part.Reads as part-reads
@@ -58,7 +59,7 @@ operand-below m = and 1 operand-kinds.ps (falls 1 operand-kinds.ps _<_ μ-operan
 
 -- the contracts of the functions that each calls
 abbrev expression-calls : ℕ → expression-lts.Claims
-expression-calls m = (word-at-reads.Asked, word-at-reads.Learnt, is-reads.Asked, is-reads.Learnt, no-form-reads.Asked, no-form-reads.Learnt, operand-below m, operand.Post, part-reads.Asked, part-reads.Learnt, await-number-reads.Asked, await-number-reads.Learnt, sides-reads.Asked, sides-reads.Learnt, clock-at-reads.Asked, clock-at-reads.Learnt, kind-at-reads.Asked, kind-at-reads.Learnt, is-kind-reads.Asked, is-kind-reads.Learnt)
+expression-calls m = (word-at-reads.Asked, word-at-reads.Learnt, is-reads.Asked, is-reads.Learnt, no-form-reads.Asked, no-form-reads.Learnt, operand-below m, operand.Post, part-reads.Asked, part-reads.Learnt, number-up-to-reads.Asked, number-up-to-reads.Learnt, sides-reads.Asked, sides-reads.Learnt, clock-at-reads.Asked, clock-at-reads.Learnt, kind-at-reads.Asked, kind-at-reads.Learnt, is-kind-reads.Asked, is-kind-reads.Learnt, tail-reads.Asked, tail-reads.Learnt)
 
 abbrev operand-calls : ℕ → operand-lts.Claims
 operand-calls m = (word-at-reads.Asked, word-at-reads.Learnt, name-reads.Asked, name-reads.Learnt, is-reads.Asked, is-reads.Learnt, expression-below m, expression.Post, enclosed-reads.Asked, enclosed-reads.Learnt)
@@ -163,7 +164,7 @@ module _ (m : ℕ) where
       let v = e .before .before .word-at2 in
       let some = sym (o .operand .ensures) ∙ operand-is (text i) (o .operand .result) (not-false _ (f .if3 .left)) in
       form-is (text i) _ refl
-      ∙ rw (c .sides .ensures, c .before .await-number .ensures, c .before .before .part .ensures, v .ensures .next .found, w .ensures .next .after)
+      ∙ rw (c .sides .ensures, c .before .number-up-to .ensures, c .before .before .part .ensures, v .ensures .next .found, w .ensures .next .after)
       (sym (await-some _ (operands i) (inner i) (words i) (opens d) (digits e) _ _ (ap (operands i (inner i)) (sym (behind e)) ∙ some)))
 
   returns-4 : expression-lts.Need-returns-4 (expression-calls m) (expression-at m) expression.Post
@@ -183,44 +184,87 @@ module _ (m : ℕ) where
       form-not (text i) _ (c .no-form4 .ensures)
       ∙ sym (pair-kind _ (operands i) (inner i) (words i) (plain e) _ _ (first-is f) (kindRead (text i) (k .before .kind-at .result)) (k .before .kind-at .ensures) (sym (k .is-kind .ensures) ∙ not-true _ (c .before .if6 .taken)))
 
+  -- a second operand that is a name, and what stands behind it
+  module _ (b : expression-lts.After-tail (expression-calls m) (expression-at m) expression.Post) (clock : ℕ) where
+    abbrev n : expression-lts.After-is4 (expression-calls m) (expression-at m) expression.Post
+    n = b .before .before .before
+
+    abbrev p : After-is
+    p = n .before .before .before .before .before .before .before .before .before .before .before
+
+    second-named : clock ≡ clockAt (text p) (p .before .before .before .args .names) (n .before .word-at3 .result .span)
+        → operands p (n .before .before .before .before .before .before .before .before .if4 .first .inner) (lineWords (text p) (n .before .before .before .before .kind-at .result .at))
+        ≡ parsed (record { left = n .before .before .before .before .before .before .before .before .if4 .first .inner; clock = clock }) (lineWords (text p) (n .before .word-at3 .result .span .end))
+    second-named e =
+        let v = n .before .word-at3 in
+        let s = p .before .before .before .args in
+        operand-read (text p) _ (v .result) (v .ensures) (s .names) (s .level) _ clock (sym (n .is4 .ensures) ∙ b .before .before .if7 .taken) e
+
   returns-6 : expression-lts.Need-returns-6 (expression-calls m) (expression-at m) expression.Post
   returns-6 c =
-      let n = c .before .before .before .before in
-      let v = n .before .word-at3 in
-      let g = n .before .before in
+      let b = c .before .before .before in
+      let g = b .before .before .before .before .before in
       let k = g .before .before in
       let f = k .before in
       let e = f .before .before .before .before .before in
       let i = e .before in
-      let s = i .before .before .before .args in
-      let named = operand-read (text i) (k .kind-at .result .at) (v .result) (v .ensures) (s .names) (s .level) _ _ (sym (n .is4 .ensures) ∙ c .before .before .before .if7 .taken) (c .before .clock-at2 .ensures) in
-      form-is (text i) _ refl
-      ∙ rw (c .sides2 .ensures)
-      (sym (pair-some _ (operands i) (inner i) (words i) (plain e) _ _ (first-is f) (kindRead (text i) (k .kind-at .result)) (k .kind-at .ensures) (kind-is g) _ _ named))
+      form-not (text i) _ (c .no-form5 .ensures)
+      ∙ sym (pair-tail _ (operands i) (inner i) (words i) (plain e) _ _ (first-is f) (kindRead (text i) (k .kind-at .result)) (k .kind-at .ensures) (kind-is g) _ _ (second-named b _ refl) (sym (b .tail .ensures) ∙ tail-miss (text i) (b .tail .result) (not-true _ (c .before .if8 .taken))))
 
   returns-7 : expression-lts.Need-returns-7 (expression-calls m) (expression-at m) expression.Post
   returns-7 c =
+      let h = c .before .before .before in
+      let b = h .before .before in
+      let g = b .before .before .before .before .before in
+      let k = g .before .before in
+      let f = k .before in
+      let e = f .before .before .before .before .before in
+      let i = e .before in
+      form-is (text i) _ refl
+      ∙ rw (c .sides2 .ensures)
+      (sym (pair-some _ (operands i) (inner i) (words i) (plain e) _ _ (first-is f) (kindRead (text i) (k .kind-at .result)) (k .kind-at .ensures) (kind-is g) _ _ (second-named b _ (c .before .clock-at2 .ensures)) _ _ (sym (b .tail .ensures) ∙ tail-is (text i) (b .tail .result) (not-false _ (h .if8 .left)))))
+
+  returns-8 : expression-lts.Need-returns-8 (expression-calls m) (expression-at m) expression.Post
+  returns-8 c =
       let o = c .before .before .before .before in
       let g = o .before .before .before .before in
       let k = g .before .before in
       let f = k .before in
       let e = f .before .before .before .before .before in
       let i = e .before in
-      form-not (text i) _ (c .no-form5 .ensures)
-      ∙ sym (pair-second _ (operands i) (inner i) (words i) (plain e) _ _ (first-is f) (kindRead (text i) (k .kind-at .result)) (k .kind-at .ensures) (kind-is g) (sym (o .operand3 .ensures) ∙ operand-not (text i) (o .operand3 .result) (not-true _ (c .before .if8 .taken))))
+      form-not (text i) _ (c .no-form6 .ensures)
+      ∙ sym (pair-second _ (operands i) (inner i) (words i) (plain e) _ _ (first-is f) (kindRead (text i) (k .kind-at .result)) (k .kind-at .ensures) (kind-is g) (sym (o .operand3 .ensures) ∙ operand-not (text i) (o .operand3 .result) (not-true _ (c .before .if9 .taken))))
 
-  returns-8 : expression-lts.Need-returns-8 (expression-calls m) (expression-at m) expression.Post
-  returns-8 c =
-      let h = c .before in
-      let o = h .before .before .before in
-      let g = o .before .before .before .before in
+  -- any other second operand
+  second-is : (h : expression-lts.Else9 (expression-calls m) (expression-at m) expression.Post) → let o = h .before .before .before in let k = o .before .before .before .before .before .before in let i = k .before .before .before .before .before .before .before in
+      operands i (k .before .before .before .before .if4 .first .inner) (lineWords (text i) (k .kind-at .result .at)) ≡ parsed (record { left = o .operand3 .result .inner; clock = o .operand3 .result .clock }) (lineWords (text i) (o .operand3 .result .at))
+  second-is h = let o = h .before .before .before in sym (o .operand3 .ensures) ∙ operand-is _ (o .operand3 .result) (not-false _ (h .if9 .left))
+
+  returns-9 : expression-lts.Need-returns-9 (expression-calls m) (expression-at m) expression.Post
+  returns-9 c =
+      let b = c .before .before .before in
+      let h = b .before in
+      let g = h .before .before .before .before .before .before .before in
+      let k = g .before .before in
+      let f = k .before in
+      let e = f .before .before .before .before .before in
+      let i = e .before in
+      form-not (text i) _ (c .no-form7 .ensures)
+      ∙ sym (pair-tail _ (operands i) (inner i) (words i) (plain e) _ _ (first-is f) (kindRead (text i) (k .kind-at .result)) (k .kind-at .ensures) (kind-is g) _ _ (second-is h) (sym (b .tail2 .ensures) ∙ tail-miss (text i) (b .tail2 .result) (not-true _ (c .before .if10 .taken))))
+
+  returns-10 : expression-lts.Need-returns-10 (expression-calls m) (expression-at m) expression.Post
+  returns-10 c =
+      let d = c .before .before in
+      let b = d .before .before in
+      let h = b .before in
+      let g = h .before .before .before .before .before .before .before in
       let k = g .before .before in
       let f = k .before in
       let e = f .before .before .before .before .before in
       let i = e .before in
       form-is (text i) _ refl
       ∙ rw (c .sides3 .ensures)
-      (sym (pair-some _ (operands i) (inner i) (words i) (plain e) _ _ (first-is f) (kindRead (text i) (k .kind-at .result)) (k .kind-at .ensures) (kind-is g) _ _ (sym (o .operand3 .ensures) ∙ operand-is (text i) (o .operand3 .result) (not-false _ (h .if8 .left)))))
+      (sym (pair-some _ (operands i) (inner i) (words i) (plain e) _ _ (first-is f) (kindRead (text i) (k .kind-at .result)) (k .kind-at .ensures) (kind-is g) _ _ (second-is h) _ _ (sym (b .tail2 .ensures) ∙ tail-is (text i) (b .tail2 .result) (not-false _ (d .if10 .left)))))
 
 -- ---- an operand
 module _ (m : ℕ) where
@@ -287,7 +331,13 @@ pub +expression+operand-spec : {M : Type 1} → statement M
     (λ c κs. search needs)
     (returns-7 m)
     (λ c κs. search needs)
-    (returns-8 m))
+    (λ c κs. search needs)
+    (returns-8 m)
+    (λ c κs. search needs)
+    (λ c κs. search needs)
+    (returns-9 m)
+    (λ c κs. search needs)
+    (returns-10 m))
     (λ m. operand-lts.spec (operand-calls m) (operand-at m) operand.Post
     (λ c κs. search needs)
     (λ c κs. search needs)

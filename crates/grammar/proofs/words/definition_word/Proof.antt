@@ -60,4 +60,4 @@ definition-word-spec =
     (λ c κs. tt)
     (λ c. look-stop _ _ _ (sym (c .before .same-bytes7 .ensures) ∙ c .if7 .taken) ∙ sym (left6 (c .before .before .before)))
     (λ c κs. tt)
-    (λ c. c .parenthesis .ensures ∙ sym (left7 (c .before))))
+    (λ c. c .delay-word .ensures ∙ sym (left7 (c .before))))

@@ -7,9 +7,10 @@ use native.Mathlib.Omega.{arith}
 use lib.ListN.{length, drop, length-set, drop-of-length-le}
 use lib.Seq.{sets}
 use Rattle.text.specs.Split.{span}
+use Rattle.text.specs.declared.Span.{Span}
 use Rattle.constraint.proofs.Walk.{length-mapped}
 use Rattle.monitor_c.specs.Numbers.{nameNumbers}
-use Rattle.monitor_c.proofs.ListLaws.{sets-written, names-on, length-names}
+use Rattle.monitor_c.proofs.ListLaws.{sets-written, twos-on, length-twos}
 use borrow.Author.Needs.{needs}
 use Rattle.monitor_c.proofs.lists.put_names.Statement.{statement}
 use Rattle.monitor_c.proofs.lists.put_names.Tie as tie
@@ -28,7 +29,7 @@ loop-again c =
     let e : length ps ≡ 32 = search (needs, length-mapped) in (
       omega arith,
       simp length-set (l .loop .inv .1),
-      sym (names-on ps (l .loop .numbers) (l .loop .i) (span 0 0) (omega arith)) ∙ l .loop .inv .2,
+      sym (twos-on _ _ ps (l .loop .numbers) (l .loop .i) (span 0 0) (omega arith)) ∙ l .loop .inv .2,
     )
 
 returns : tie.Need-returns Inv-loop μ-loop
@@ -39,7 +40,7 @@ returns c =
     let e : length ps ≡ 32 = search (needs, length-mapped) in
     let all : drop (l .loop .i) ps ≡ [] = drop-of-length-le ps {i = l .loop .i} (omega arith) in
     sym (ap (λ qs. sets (l .loop .numbers) (2 * l .loop .i) (nameNumbers qs)) all) ∙ l .loop .inv .2
-    ∙ sets-written (nameNumbers ps) (s .numbers .now) (omega (arith, length-names ps, e))
+    ∙ sets-written (nameNumbers ps) (s .numbers .now) (omega (arith, length-twos (λ (p : Span). p .start) (λ (p : Span). p .end) ps, e))
 
 pub put-names-spec : {M : Type 1} → statement M
 put-names-spec =

@@ -16,7 +16,7 @@ use Rattle.monitor_c.proofs.lists.put_records.Tie as tie
 
 abbrev Inv-loop : tie.InvT-loop
 Inv-loop numbers₀ records i₀ numbers i =
-    (i ≤ 64) × (length numbers ≡ length numbers₀) × (sets numbers (6 * i) (recordNumbers (drop i records)) ≡ sets numbers₀ 0 (recordNumbers records))
+    (i ≤ 64) × (length numbers ≡ length numbers₀) × (sets numbers (8 * i) (recordNumbers (drop i records)) ≡ sets numbers₀ 0 (recordNumbers records))
 
 abbrev μ-loop : tie.MeasureT-loop
 μ-loop numbers₀ records i₀ numbers i = 64 - i
@@ -24,7 +24,7 @@ abbrev μ-loop : tie.MeasureT-loop
 room : tie.Need-put-record-requires Inv-loop μ-loop
 room c κs =
     let l = c .before .before .before in
-    let here : 6 * l .loop .i + 6 ≤ length (l .loop .numbers) = omega (arith, l .loop .inv .1, l .before .before .pre) in
+    let here : 8 * l .loop .i + 8 ≤ length (l .loop .numbers) = omega (arith, l .loop .inv .1, l .before .before .pre) in
     here
 
 loop-again : tie.Need-loop-again Inv-loop μ-loop
@@ -34,8 +34,8 @@ loop-again c =
     let rs = l .before .before .args .t2 in
     let e : length rs ≡ 64 = search (needs, length-mapped) in (
       omega arith,
-      ap (λ ns. length ns) (p .ensures) ∙ length-sets (l .loop .numbers) (6 * l .loop .i) (recordNumbers (getD rs (l .loop .i) empty ∷ [])) ∙ l .loop .inv .1,
-      ap (λ ns. sets ns (6 * (l .loop .i + 1)) (recordNumbers (drop (l .loop .i + 1) rs))) (p .ensures)
+      ap (λ ns. length ns) (p .ensures) ∙ length-sets (l .loop .numbers) (8 * l .loop .i) (recordNumbers (getD rs (l .loop .i) empty ∷ [])) ∙ l .loop .inv .1,
+      ap (λ ns. sets ns (8 * (l .loop .i + 1)) (recordNumbers (drop (l .loop .i + 1) rs))) (p .ensures)
           ∙ sym (records-on rs (l .loop .numbers) (l .loop .i) empty (omega arith)) ∙ l .loop .inv .2,
     )
 
@@ -46,7 +46,7 @@ returns c =
     let rs = s .t2 in
     let e : length rs ≡ 64 = search (needs, length-mapped) in
     let all : drop (l .loop .i) rs ≡ [] = drop-of-length-le rs {i = l .loop .i} (omega arith) in
-    sym (ap (λ qs. sets (l .loop .numbers) (6 * l .loop .i) (recordNumbers qs)) all) ∙ l .loop .inv .2
+    sym (ap (λ qs. sets (l .loop .numbers) (8 * l .loop .i) (recordNumbers qs)) all) ∙ l .loop .inv .2
     ∙ sets-written (recordNumbers rs) (s .numbers .now) (omega (arith, length-records rs, e))
 
 pub put-records-spec : {M : Type 1} → statement M

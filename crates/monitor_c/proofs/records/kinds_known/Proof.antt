@@ -16,20 +16,20 @@ Inv-loop numbers at₀ at = (at ≤ length numbers) × (kindsKnown (drop at numb
 abbrev μ-loop : tie.MeasureT-loop
 μ-loop numbers at₀ at = length numbers - at
 
--- a kind above 13
+-- a kind above 14
 returns : tie.Need-returns Inv-loop μ-loop
 returns c =
     let l = c .before .before .before in
     let ns = l .before .args .numbers .now in
     sym (sym (l .loop .inv .1) ∙ ap allKnown (rows-on ns (l .loop .at) (omega arith))
-    ∙ rw (lt-leb (getD ns (l .loop .at) 0) 13 (c .if1 .taken)) refl)
+    ∙ rw (lt-leb (getD ns (l .loop .at) 0) 14 (c .if1 .taken)) refl)
 
 loop-again : tie.Need-loop-again Inv-loop μ-loop
 loop-again c =
     let l = c .before .before .before in
     let ns = l .before .args .numbers .now in (
       omega arith,
-      sym (ap allKnown (rows-on ns (l .loop .at) (omega arith)) ∙ rw (le-leb (getD ns (l .loop .at) 0) 13 (c .if1 .left)) refl)
+      sym (ap allKnown (rows-on ns (l .loop .at) (omega arith)) ∙ rw (le-leb (getD ns (l .loop .at) 0) 14 (c .if1 .left)) refl)
           ∙ l .loop .inv .1,
     )
 

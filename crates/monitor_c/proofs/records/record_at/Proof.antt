@@ -1,21 +1,17 @@
--- Six numbers in a row, each read and named. Assumes nothing.
+-- Eight numbers in a row, each read and named. Assumes nothing.
 use mathlib.Core.Path.{refl}
-use Prim.Native.Nat.{_<_, _+_}
-use lib.ListN.{getD}
-use native.Mathlib.Omega.{arith}
-use Rattle.monitor_c.proofs.RecordLaws.{at-most}
 use borrow.Author.Needs.{needs}
 use Rattle.monitor_c.proofs.records.record_at.Statement.{statement}
 use Rattle.monitor_c.proofs.records.record_at.Tie as tie
 
 returns : tie.Need-returns
 returns c =
-    let number = c .before in
-    let second = number .before .before in
+    let parameter = c .before in
+    let second = parameter .before .before .before .before .before in
     let first = second .before .before in
     let defined = first .before .before in
     let kind = defined .before .before in
-    rw (kind .kind-of .ensures, defined .clock-of .ensures, first .clock-of2 .ensures, second .clock-of3 .ensures, number .at-most .ensures) refl
+    rw (kind .kind-of .ensures, defined .clock-of .ensures, first .clock-of2 .ensures, second .clock-of3 .ensures, parameter .parameter-of .ensures) refl
 
 pub record-at-spec : {M : Type 1} → statement M
 record-at-spec =
@@ -36,6 +32,14 @@ record-at-spec =
     (λ c. search needs)
     (λ c. search needs)
     (λ c κs. search needs)
+    (λ c. search needs)
+    (λ c. search needs)
+    (λ c. search needs)
+    (λ c. search needs)
+    (λ c. search needs)
+    (λ c. search needs)
+    (λ c. search needs)
+    (λ c. search needs)
     (λ c. search needs)
     (λ c. search needs)
     (λ c. search needs)

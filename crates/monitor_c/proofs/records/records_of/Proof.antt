@@ -34,7 +34,7 @@ loop-again c =
     let l = c .before .before .before in
     let ns = l .before .before .before .args .numbers .now in
     let k : length (l .loop .records) ≡ 66 = l .loop .inv .2 in
-    let stored : sets (l .loop .records) (l .loop .i) (recordsOf (drop (l .loop .at) ns)) ≡ sets (set (l .loop .records) (l .loop .i) (c .record-at .result)) (l .loop .i + 1) (recordsOf (drop (l .loop .at + 6) ns)) =
+    let stored : sets (l .loop .records) (l .loop .i) (recordsOf (drop (l .loop .at) ns)) ≡ sets (set (l .loop .records) (l .loop .i) (c .record-at .result)) (l .loop .i + 1) (recordsOf (drop (l .loop .at + 8) ns)) =
     rw (rows-on ns (l .loop .at) (omega arith), c .record-at .ensures, add-one (l .loop .i)) refl in
     (omega arith, omega arith, length-set (l .loop .records) (l .loop .i) _ ∙ k, sym stored ∙ l .loop .inv .3)
 

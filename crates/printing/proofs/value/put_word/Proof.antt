@@ -17,15 +17,15 @@ use Rattle.printing.proofs.value.put_word.Statement.{statement}
 use Rattle.printing.proofs.value.put_word.Tie as tie
 
 module _ (c : tie.After-magnitude) where
-  fits : SFits w64 (c .before .before .before .args .w .0)
+  fits : SFits w64 (c .before .before .args .z)
   fits = search needs
 
-  far : c .magnitude .result ≡ natAbs (c .before .before .before .args .w .0)
+  far : c .magnitude .result ≡ natAbs (c .before .before .args .z)
   far = rw (toZ-ofZ fits) at (c .magnitude .ensures)
 
   -- a word has at most 19 digits
   few : length (digits (c .magnitude .result)) ≤ 19
-  few = rw far (magnitude-few (c .before .before .before .args .w .0) (fits .sfits))
+  few = rw far (magnitude-few (c .before .before .args .z) (fits .sfits))
 
 put-number-requires : tie.Need-put-number-requires
 put-number-requires c κs =
@@ -37,7 +37,7 @@ returns c =
     let p = c .before .before in
     let t = p .before .before .before .before in
     let m = t .before .before .before .before in
-    let z = m .before .before .before .args .w .0 in
+    let z = m .before .before .args .z in
     let e = signed-below z (far m) (sym (negative-is z) ∙ (rw (toZ-ofZ (fits m)) at (t .before .before .before .if1 .taken))) in
     record { put = rw e (put-then (t .put-text .ensures) (p .put-number .ensures)); short = omega (arith, few m, t .put-text .ensures .ends, p .put-number .ensures .ends) }
 
@@ -45,7 +45,7 @@ returns-2 : tie.Need-returns-2
 returns-2 c =
     let p = c .before .before in
     let m = p .before .before .before in
-    let z = m .before .before .before .args .w .0 in
+    let z = m .before .before .args .z in
     let e = signed-above z (far m) (sym (negative-is z) ∙ (rw (toZ-ofZ (fits m)) at (p .before .before .if1 .left))) in
     rw e (p .spaced .ensures)
 

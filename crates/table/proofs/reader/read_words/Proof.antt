@@ -8,9 +8,9 @@ use Rattle.grammar.specs.Grammar.{parsed, lineWords, levels, formIn}
 use Rattle.grammar.specs.Names.{withWords}
 use Rattle.grammar.specs.declared.Names.{Names}
 use Rattle.grammar.proofs.GrammarLaws.{form-not, form-is}
-use Rattle.table.specs.Reader.{anyWord, longName, badNumber, twice}
+use Rattle.table.specs.Reader.{anyWord, longName, badNumber, badList, twice}
 use Rattle.table.specs.declared.Flaws.{Flaws}
-use Rattle.table.proofs.ReaderLaws.{refused-12, refused-13, refused-14, refused-15, to-add, settles}
+use Rattle.table.proofs.ReaderLaws.{refused-12, refused-13, refused-14, refused-22, refused-15, to-add, settles}
 use borrow.Author.Needs.{needs}
 use Rattle.table.proofs.reader.read_words.Statement.{statement}
 use Rattle.table.proofs.reader.read_words.Tie as tie
@@ -42,10 +42,13 @@ module _ (w : tie.After-flaws) where
   bad-is : w .flaws .result .bad ≡ anyWord (badNumber (now (s .args .line))) (lineWords (now (s .args .line)) (s .args .from))
   bad-is = ap (λ (x : Flaws). x .bad) (w .flaws .ensures)
 
+  list-is : w .flaws .result .list ≡ anyWord (badList (now (s .args .line))) (lineWords (now (s .args .line)) (s .args .from))
+  list-is = ap (λ (x : Flaws). x .list) (w .flaws .ensures)
+
 -- what is known of 15, and what was found where it was asked, settle it
-twice-is : (c : tie.After-settled) → (let s = s (c .before .before .before) .args in c .settled .result ≡ anyWord (twice (now (s .line))) (lineWords (now (s .line)) (s .from)))
+twice-is : (c : tie.After-settled) → (let s = s (c .before .before .before .before) .args in c .settled .result ≡ anyWord (twice (now (s .line))) (lineWords (now (s .line)) (s .from)))
 twice-is c =
-    let w = c .before .before .before in
+    let w = c .before .before .before .before in
     let known = w .before .before .repeats in
     c .settled .ensures ∙ rw (w .flaws .ensures, w .before .asks .ensures) (settles (known .result) _ (known .ensures))
 
@@ -67,22 +70,33 @@ returns-3 c =
 
 returns-4 : tie.Need-returns-4
 returns-4 c =
-    let t = c .before .before in
-    let f = t .before in
+    let f = c .before .before in
     let e = f .before in
     let w = e .before in
-    c .refuse4 .ensures (s w .args .builder) ∙ sym (refused-15 _ _ _ _ _ _ _ _ (fits (w .before .before .before)) (sym (long-is w) ∙ e .if2 .left) (sym (bad-is w) ∙ f .if3 .left) (sym (twice-is t) ∙ c .before .if4 .taken))
+    c .refuse4 .ensures (s w .args .builder)
+    ∙ sym (refused-22 _ _ _ _ _ _ _ _ (fits (w .before .before .before)) (sym (long-is w) ∙ e .if2 .left) (sym (bad-is w) ∙ f .if3 .left) (sym (list-is w) ∙ c .before .if4 .taken))
 
 returns-5 : tie.Need-returns-5
 returns-5 c =
-    let g = c .before .before in
-    let t = g .before in
-    let f = t .before in
+    let t = c .before .before in
+    let g = t .before in
+    let f = g .before in
+    let e = f .before in
+    let w = e .before in
+    c .refuse5 .ensures (s w .args .builder)
+    ∙ sym (refused-15 _ _ _ _ _ _ _ _ (fits (w .before .before .before)) (sym (long-is w) ∙ e .if2 .left) (sym (bad-is w) ∙ f .if3 .left) (sym (list-is w) ∙ g .if4 .left) (sym (twice-is t) ∙ c .before .if5 .taken))
+
+returns-6 : tie.Need-returns-6
+returns-6 c =
+    let h = c .before .before in
+    let t = h .before in
+    let g = t .before in
+    let f = g .before in
     let e = f .before in
     let w = e .before in
     c .add-line .ensures
     ∙ rw (w .before .before .before .before .before .before .before .before .with-words .ensures)
-    (sym (to-add _ _ _ _ _ _ _ _ (fits (w .before .before .before)) (sym (long-is w) ∙ e .if2 .left) (sym (bad-is w) ∙ f .if3 .left) (sym (twice-is t) ∙ g .if4 .left)))
+    (sym (to-add _ _ _ _ _ _ _ _ (fits (w .before .before .before)) (sym (long-is w) ∙ e .if2 .left) (sym (bad-is w) ∙ f .if3 .left) (sym (list-is w) ∙ g .if4 .left) (sym (twice-is t) ∙ h .if5 .left)))
 
 pub read-words-spec : {M : Type 1} → statement M
 read-words-spec =
@@ -101,7 +115,9 @@ read-words-spec =
     (λ c κs. search needs)
     returns-3
     (λ c κs. search needs)
-    (λ c κs. search needs)
     returns-4
     (λ c κs. search needs)
-    returns-5)
+    (λ c κs. search needs)
+    returns-5
+    (λ c κs. search needs)
+    returns-6)
