@@ -1,5 +1,5 @@
 /* check TABLE RECORDING: judges a recording by a table, both named files, and prints three lines: the verdict, the number of accepted
- * steps, and a word for each constraint. A file that cannot be opened or read counts as empty. A variable of the recording whose name the
+ * steps, and two words for each constraint. A file that cannot be opened or read counts as empty. A variable of the recording whose name the
  * table lacks is refused, with 38; with CCSL_UNKNOWN_IGNORED it would be ignored. */
 #include <inttypes.h>
 #include <stdio.h>
@@ -37,10 +37,10 @@ static void print_verdict(const uint64_t *answer)
     }
 }
 
-static void print_words(const int64_t *words, uint64_t count)
+static void print_words(const int64_t *words, uint64_t constraints)
 {
     printf("config");
-    for (uint64_t i = 0; i < count; i++)
+    for (uint64_t i = 0; i < 2 * constraints; i++)
         printf(" %" PRId64, words[i]);
     printf("\n");
 }

@@ -1,5 +1,5 @@
 /* places: two packing machines take single steps by the same table, on different ways, and are asked whether they stand at the same
- * place. What it prints is in places.printed. */
+ * place; then the same by a record that is made by hand, a delay. What it prints is in places.printed. */
 #include <inttypes.h>
 #include <stdio.h>
 #include <stdlib.h>
@@ -13,7 +13,7 @@ static const char text[] = "fill strictly precedes seal\n"
                            "full clockDef await 3 seal\n";
 enum { FILL = 1 << 0, SEAL = 1 << 1, DONE = 1 << 2 };
 
-/* The table as the library reads it. */
+/* The table as the library reads it, until a record made by hand takes its place. */
 static uint64_t records[CCSL_RECORDS * CCSL_RECORD];
 static uint64_t names[CCSL_CLOCKS * 2];
 static uint64_t constraints;
@@ -55,12 +55,20 @@ static void read_table(void)
 static void print_words(const int64_t *words)
 {
     printf("config");
-    for (uint64_t i = 0; i < constraints; i++)
+    for (uint64_t i = 0; i < 2 * constraints; i++)
         printf(" %" PRId64, words[i]);
     printf("\n");
 }
 
-/* Puts a machine's monitor at the table's start words. */
+/* Puts `done clockDef fill deferred seal for 2 3` in the place of the table's records. The clocks stay those of the table. */
+static void delay_by_hand(void)
+{
+    const uint64_t record[CCSL_RECORD] = {CCSL_DEFERRED, 2, 0, 1, 0, 0, CCSL_DELAY(0, 2) | CCSL_DELAY(1, 3), 2};
+    memcpy(records, record, sizeof record);
+    constraints = 1;
+}
+
+/* Puts a machine's monitor at the start words of the records. */
 static void start(int64_t *words)
 {
     uint64_t answer[CCSL_START_ANSWER];
@@ -101,6 +109,10 @@ int main(void)
 {
     int64_t one[CCSL_WORDS], other[CCSL_WORDS];
 
+    if (ccsl_layout() != CCSL_LAYOUT) {
+        fprintf(stderr, "places: the library has layout %" PRIu32 "\n", ccsl_layout());
+        return 1;
+    }
     read_table();
     start(one);
     start(other);
@@ -124,6 +136,20 @@ int main(void)
 
     printf("\nThe other machine seals its second box.\n");
     step(other, SEAL | DONE);
+    compare(one, other);
+
+    printf("\nBy a delay, done comes with the second seal after the first fill, and with the third after the next.\n");
+    delay_by_hand();
+    start(one);
+    step(one, FILL);
+    step(one, SEAL);
+    step(one, FILL);
+    step(one, SEAL);
+    step(one, SEAL | DONE);
+
+    printf("\nThe other machine has the same tick of done before it, and a number of the list besides.\n");
+    start(other);
+    step(other, FILL);
     compare(one, other);
     return 0;
 }

@@ -1,8 +1,8 @@
 /* The checker for C: a table of clock constraints and a recording of ticks are read and judged by code that is proved to meet its
  * contract (crates/monitor_c). Numbers come in and go out in lists, which the caller owns.
  *
- * Every call returns a status. CCSL_DONE: the answer was written, and the other lists that the call writes. Any other: a list that was
- * handed in has not the shape that the call asks for, or the choice of a run is none of those below, and nothing was written.
+ * Every call but ccsl_layout returns a status. CCSL_DONE: the answer was written, and the other lists that the call writes. Any other: a list
+ * that was handed in has not the shape that the call asks for, or the choice of a run is none of those below, and nothing was written.
  *
  * The library keeps nothing between calls and has no state of its own, so that calls may run at once from several threads. Two calls at
  * once may read the same list; one that a call writes belongs to that call alone.
@@ -11,7 +11,9 @@
  * elements. Of a list that is longer than the call needs, the rest is left alone.
  *
  * A table's text and a recording may hold any bytes, and a list any numbers: what breaks a limit is refused, with the limit's number and
- * place (docs/refusals.md). Only a record's kind and the choice of a run have to be among those below. */
+ * place (docs/refusals.md). Only a record's kind and the choice of a run have to be among those below.
+ *
+ * What lists hold has changed once: see CCSL_LAYOUT. */
 #ifndef CCSL_MONITOR_H
 #define CCSL_MONITOR_H
 
@@ -26,11 +28,11 @@ extern "C" {
 enum {
     CCSL_DONE = 0,
     CCSL_ANSWER_SHORT = 1,   /* `answer` has fewer numbers than the call writes */
-    CCSL_WORDS_SHORT = 2,    /* a configuration has fewer than CCSL_WORDS words */
+    CCSL_WORDS_SHORT = 2,    /* a configuration has fewer than CCSL_WORDS words, as those of layout 1 have */
     CCSL_RECORDS_SHORT = 3,  /* ccsl_read_table: `records` has fewer than CCSL_RECORDS * CCSL_RECORD numbers */
     CCSL_NAMES_SHORT = 4,    /* ccsl_read_table: `names` has fewer than CCSL_CLOCKS * 2 numbers */
-    CCSL_RECORDS_RAGGED = 5, /* the calls on records: the numbers of `records` do not come in sixes */
-    CCSL_KIND_UNKNOWN = 6,   /* the same calls: a record's kind is above CCSL_UPTO */
+    CCSL_RECORDS_RAGGED = 5, /* the calls on records: the numbers of `records` do not come in eights */
+    CCSL_KIND_UNKNOWN = 6,   /* the same calls: a record's kind is above CCSL_DEFERRED */
     CCSL_ORDER_SHORT = 7,    /* ccsl_definition_order: `order` has fewer than CCSL_CLOCKS numbers */
     CCSL_CHOICE_INVALID = 8  /* ccsl_run: `unknown` is neither of the two choices */
 };
@@ -45,9 +47,9 @@ enum {
 
 /* Sizes of lists. */
 enum {
-    CCSL_WORDS = 64,      /* words of a configuration: one a record, in table order, the rest 0 */
+    CCSL_WORDS = 128,     /* words of a configuration: two a record, in table order, the rest 0 */
     CCSL_RECORDS = 64,    /* records of a table */
-    CCSL_RECORD = 6,      /* numbers of a record: kind, c, a, b, n, line */
+    CCSL_RECORD = 8,      /* numbers of a record: kind, c, a, b, n, line, numbers, count */
     CCSL_CLOCKS = 32,     /* clocks of a table, named and implicit */
     CCSL_RUN_ANSWER = 5,  /* numbers of the answers */
     CCSL_READ_ANSWER = 6,
@@ -57,9 +59,10 @@ enum {
     CCSL_ORDER_ANSWER = 4
 };
 
-/* The kind of a record. A record is six numbers: its kind; the numbers of the clocks c, a and b; the number n of an await; the table line.
- * What a kind does not name is free: c of a relation, b of an await, n of all others, the line, everything of an empty record. A clock
- * number above 255 counts as 255, an n above 2^32 - 1 as 2^32 - 1; both are refused where the kind names them. */
+/* The kind of a record. A record is eight numbers: its kind; the numbers of the clocks c, a and b; the number n of an await; the table line;
+ * the numbers of a delay's list, and their count. What a kind does not name is free: c of a relation, b of an await, n of all that are no
+ * await, the list of all that are no delay, the line, everything of an empty record. A clock number above 255 counts as 255, an n above
+ * 2^32 - 1 as 2^32 - 1, a count above 255 as 255; each is refused where the kind names it. */
 enum {
     CCSL_EMPTY = 0,
     CCSL_COINCIDES = 1,         /* a = b */
@@ -74,8 +77,34 @@ enum {
     CCSL_AWAIT = 10,            /* c clockDef await n a */
     CCSL_STRICTLY_SAMPLED = 11, /* c clockDef a strictly sampled b */
     CCSL_SAMPLED = 12,          /* c clockDef a sampled b */
-    CCSL_UPTO = 13              /* c clockDef a upto b */
+    CCSL_UPTO = 13,             /* c clockDef a upto b */
+    CCSL_DEFERRED = 14          /* c clockDef a deferred b for n ... */
 };
+
+/* The list of a delay. `numbers` has a number a byte, the first in the lowest: of `for 2 3` it is 2 + 3 * 256, and `count` is 2. The bytes
+ * from `count` on are free. A list of none or of over eight numbers, or one with a number outside 1 to 32, is refused with 59.
+ * CCSL_DELAY(i, n) is n, 0 to 255, as number i, from 0 to 7, of a list: CCSL_DELAY(0, 2) | CCSL_DELAY(1, 3) is that of `for 2 3`. */
+#define CCSL_DELAY(i, n) ((uint64_t)(n) << 8 * (i))
+
+/* A configuration is a pair of words for each record: those of record i, from 0, stand at 2 * i and 2 * i + 1. The pair of a delay is its
+ * pending ticks, bit k - 1 for the k-th next tick of b, and how many numbers of its list are used; it starts with 0 0. That of any other
+ * record is what the record remembers, and 0. 60 speaks of pairs: of a delay the first word is 0 to 2^32 - 1 and the second 0 to the
+ * length of the list, in any combination; the second word of all others is 0, and so are both of a pair behind the records. Its place is
+ * the pair's, 1 to 64. */
+
+/* The number of the layout of records and configurations that this header has. In layout 1 a record was its first six numbers, and a
+ * configuration 64 words, one a record. What was saved in layout 1 becomes what it is here by two zeros behind the six numbers of each
+ * record, and by a 0 behind each word of a configuration. */
+enum {
+    CCSL_LAYOUT = 2
+};
+
+/* The number of the layout that the library has, which is CCSL_LAYOUT where the library belongs to this header; a library of layout 1 has
+ * no such call. Lists of records of the two layouts cannot be told apart by their lengths: four records of layout 1 are as long as three of
+ * layout 2, and are judged as such. So a program that loads records which it saved keeps with them the number of their layout, and compares
+ * it with the library's; and one that was compiled against another header than the library's compares its CCSL_LAYOUT. A configuration of
+ * layout 1 is too short, and told by CCSL_WORDS_SHORT. */
+uint32_t ccsl_layout(void);
 
 /* Clocks have numbers from 0: first come the named ones, then the implicit ones. An implicit clock stands for an expression in parentheses,
  * as in `(a lub b) precedes c`, and a record defines it. It is not recorded, and a tick set holds named clocks alone: each step works out
@@ -93,7 +122,7 @@ enum {
  * The place of 38 is the offset of the variable's `$var`; no step was read then, and the words are the start words.
  * answer, 5 numbers: CCSL_ACCEPTED, 0, 0; or CCSL_VIOLATED, the table line, the recorded time; or CCSL_REFUSED, the limit's number, the
  * place; then the number of accepted steps and the number of constraints, both 0 where the table was refused.
- * words, 64 words: the configuration after the accepted steps, all 0 where the table was refused.
+ * words, 128 words: the configuration after the accepted steps, all 0 where the table was refused.
  * CCSL_ANSWER_SHORT, CCSL_WORDS_SHORT, CCSL_CHOICE_INVALID. */
 uint32_t ccsl_run(const uint8_t *table, size_t table_len,
                   const uint8_t *recording, size_t recording_len,
@@ -104,9 +133,11 @@ uint32_t ccsl_run(const uint8_t *table, size_t table_len,
 /* Reads a table.
  * answer, 6 numbers: CCSL_ACCEPTED, 0, 0; or CCSL_REFUSED, the limit's number, the line, from 1, or 0 where the text is too long; then the
  * number of constraints, the number of clocks, named and implicit together, and the number of named clocks, each 0 where the table was
- * refused. Of a line's parentheses speak 19, over sixteen stand open, and 20, one has no partner.
- * records, 64 records of 6 numbers in table order: of a line, first those of its implicit clocks, inner before outer, left before right, then
- * its own; those behind the last are empty, with six zeros.
+ * refused. Of a line's parentheses speak 19, over sixteen stand open, and 20, one has no partner; of the list of a delay 22, between 14 and
+ * 15: it has none or over eight numbers, or one outside 1 to 32.
+ * records, 64 records of 8 numbers in table order: of a line, first those of its implicit clocks, inner before outer, left before right, then
+ * its own; those behind the last are empty, with eight zeros. `numbers` and `count` are 0 of all that are no delay, and of a delay the bytes
+ * of `numbers` from `count` on.
  * names, 32 pairs in the order of the named clocks' numbers: the offset in the text at which the clock's name starts where it first stands,
  * and the offset behind its last byte; zeros behind the last.
  * CCSL_ANSWER_SHORT, CCSL_RECORDS_SHORT, CCSL_NAMES_SHORT. */
@@ -115,15 +146,15 @@ uint32_t ccsl_read_table(const uint8_t *text, size_t text_len,
                          uint64_t *records, size_t records_len,
                          uint64_t *names, size_t names_len);
 
-/* A monitor is its configuration alone, 64 words, which the caller keeps. ccsl_start_words gives it the start words of records, and ccsl_step
+/* A monitor is its configuration alone, 128 words, which the caller keeps. ccsl_start_words gives it the start words of records, and ccsl_step
  * moves it forward where it stands (examples-c/places.c has two of them). The records are lent to each call: those that ccsl_read_table
  * wrote, with the two counts that it answered, or any made by hand. */
 
-/* Puts a monitor at the start of records. records_len counts numbers, six a record.
+/* Puts a monitor at the start of records. records_len counts numbers, eight a record.
  * answer, 3 numbers: CCSL_ACCEPTED, 0, 0; or CCSL_REFUSED, 59, the place, exactly where every step on these records is refused so: 0 where
  * `clocks` is over 32 or `named` above `clocks`, else the first record that is bad, also one that uses, as a or b, an implicit clock which
  * no record above it defines.
- * words, 64 words: the start word of each record, the rest 0; all 0 where the records are refused.
+ * words, 128 words: the start pair of each record, the rest 0; all 0 where the records are refused.
  * CCSL_ANSWER_SHORT, CCSL_WORDS_SHORT, CCSL_RECORDS_RAGGED, CCSL_KIND_UNKNOWN. More than 64 records, all of a known kind, are refused with
  * 59, at the first that is bad, else at 65. */
 uint32_t ccsl_start_words(const uint64_t *records, size_t records_len,

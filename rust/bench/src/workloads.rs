@@ -1,6 +1,6 @@
 //! The inputs that are measured, the same for both monitors.
 
-use second_opinion::{Configuration, Record, WORDS};
+use second_opinion::{Configuration, Kind, Record, WORDS};
 use std::hint::black_box;
 
 /// An input, prepared for both monitors.
@@ -16,7 +16,14 @@ pub enum Input {
         records: Vec<Record>,
         words: Configuration,
     },
-    /// The same records, and two equal configurations.
+    /// Records with delays, as numbers and as they are; the step ticks every clock, each time from the
+    /// same words, since it moves them.
+    Again {
+        numbers: Vec<u64>,
+        records: Vec<Record>,
+        words: Configuration,
+    },
+    /// Records, as numbers and as they are, and two equal configurations.
     Place {
         numbers: Vec<u64>,
         records: Vec<Record>,
@@ -37,15 +44,22 @@ const CLOCKS: u32 = 32;
 /// Named clocks of the table with nested lines; as many are implicit.
 const NAMED: u32 = 16;
 
+/// Clocks of the table with delays that are delays; the other two are their operands.
+const DELAYS: usize = 30;
+
+/// Numbers in the list of each delay.
+const LIST: usize = 8;
+
 /// Bytes of the tables that are read alone: as many as a table may have.
 const TABLE_BYTES: usize = 4096;
 
 /// The names of the workloads.
-pub const WORKLOADS: [&str; 14] = [
+pub const WORKLOADS: [&str; 17] = [
     "dense",
     "wide",
     "marks",
     "nested",
+    "delays",
     "read_flat",
     "read_deep",
     "read_names",
@@ -53,7 +67,9 @@ pub const WORKLOADS: [&str; 14] = [
     "read_words",
     "read_openers",
     "step",
+    "step_delays",
     "same_place",
+    "place_delays",
     "order",
     "order_circle",
 ];
@@ -66,6 +82,8 @@ Runs, by the recording's size in bytes; names that the table lacks are ignored:
 - marks: 64 constraints on 32 clocks, marks alone
 - nested: 64 constraints, 16 of them of expressions in parentheses up to five deep, all 16 named
   clocks tick in every step
+- delays: 64 constraints on 32 clocks, 30 of them delays with lists of eight numbers; b ticks in every
+  step and a in every 32nd, so that each delay plans and fires eight times, in the first 257 steps
 
 Tables that are read alone, by their size in bytes:
 - read_flat: 64 lines without parentheses
@@ -77,7 +95,10 @@ Tables that are read alone, by their size in bytes:
 
 Calls, by the number of records:
 - step: all 32 clocks tick, on the first constraints of dense
+- step_delays: the same on the first constraints of delays, from words with which each delay fires
+  and plans; they are set before each step
 - same_place: two equal configurations, on the first constraints of dense
+- place_delays: the same on the first constraints of delays
 - order: the working order of at most 31 definitions below as many relations or more, each of which
   rests on the two above it
 - order_circle: 32 definitions in one circle, below 32 relations, refused with 21
@@ -88,7 +109,7 @@ prepared numbers.";
 /// The sizes that a workload is measured at.
 pub fn sizes(workload: &str) -> Vec<usize> {
     let powers = match workload {
-        "step" | "same_place" | "order" => 0..=6,
+        "step" | "step_delays" | "same_place" | "place_delays" | "order" => 0..=6,
         "order_circle" => 6..=6,
         _ if workload.starts_with("read_") => 12..=12,
         _ => 10..=16,
@@ -127,22 +148,44 @@ pub fn input(workload: &str, size: usize) -> Option<Input> {
             |time| format!("#{time}\n{}", ticks(NAMED)),
             size,
         ),
+        "delays" => run(
+            delays_table(),
+            declarations(CLOCKS),
+            |time| format!("#{time}\n{}", delays_ticks(time)),
+            size,
+        ),
         "read_flat" => read(flat_text(), 0, size),
         "read_deep" => read(deep_text(), 17, size),
         "read_names" => read(names_text(), 17, size),
         "read_twice" => read(twice_text(), 15, size),
         "read_words" => read("a ".repeat(TABLE_BYTES / 2), 12, size),
         "read_openers" => read("(".repeat(TABLE_BYTES), 19, size),
-        "step" => Some(records(size)).map(|(numbers, records)| Input::Step {
+        "step" => Some(records(&dense_table(), size)).map(|(numbers, records)| Input::Step {
             numbers,
             records,
-            words: [0; WORDS],
+            words: [[0, 0]; WORDS],
         }),
-        "same_place" => Some(records(size)).map(|(numbers, records)| Input::Place {
-            numbers,
-            records,
-            words: [0; WORDS],
-        }),
+        "step_delays" => {
+            Some(records(&delays_table(), size)).map(|(numbers, records)| Input::Again {
+                words: due(&records),
+                numbers,
+                records,
+            })
+        }
+        "same_place" => {
+            Some(records(&dense_table(), size)).map(|(numbers, records)| Input::Place {
+                numbers,
+                records,
+                words: [[0, 0]; WORDS],
+            })
+        }
+        "place_delays" => {
+            Some(records(&delays_table(), size)).map(|(numbers, records)| Input::Place {
+                words: due(&records),
+                numbers,
+                records,
+            })
+        }
         "order" => Some(order(size, (size / 2).min(31), above, 0)),
         "order_circle" => Some(order(size, size / 2, around, 21)),
         _ => None,
@@ -206,6 +249,54 @@ fn nested_table() -> String {
     rows.extend((0..14).map(|i| format!("c{i} precedes c{}", i + 2)));
     rows.extend((0..11).map(|i| format!("c{i} isSubClockOf c{}", i + 3)));
     rows.join("\n") + "\n"
+}
+
+/// 30 delays of c0 by c1, and 34 relations that hold where c1 ticks in every step, and where all 32
+/// clocks tick together.
+fn delays_table() -> String {
+    let delays = || 2..2 + DELAYS;
+    let mut rows: Vec<String> = Vec::new();
+    rows.extend(delays().map(|i| {
+        let list: String = (0..LIST).map(|k| format!(" {}", delay(i, k))).collect();
+        format!("c{i} clockDef c0 deferred c1 for{list}")
+    }));
+    rows.extend(delays().map(|i| format!("c{i} isSubClockOf c1")));
+    let others = [
+        "c0 isSubClockOf c1",
+        "c1 precedes c0",
+        "c0 precedes c2",
+        "c0 precedes c3",
+    ];
+    rows.extend(others.map(String::from));
+    rows.join("\n") + "\n"
+}
+
+/// Number k, from 0, in the list of the delay i: 1 to 32.
+fn delay(i: usize, k: usize) -> usize {
+    1 + (7 * i + 11 * k) % 32
+}
+
+/// The changes at a time: c1 ticks always, c0 at every 32nd time, and so a delay ticks as many times
+/// after that as its next number says.
+fn delays_ticks(time: usize) -> String {
+    let ticks = |clock: &usize| match clock {
+        0 => time.is_multiple_of(32),
+        1 => true,
+        i => (0..LIST).any(|k| time == 32 * k + delay(*i, k)),
+    };
+    (0..CLOCKS as usize)
+        .filter(ticks)
+        .map(|clock| format!("1{}\n", id(clock as u32)))
+        .collect()
+}
+
+/// The words with which each delay has a tick due and its list before it.
+fn due(records: &[Record]) -> Configuration {
+    let mut words = [[0, 0]; WORDS];
+    for (pair, record) in words.iter_mut().zip(records) {
+        pair[0] = i64::from(record.kind == Kind::Deferred);
+    }
+    words
 }
 
 /// A table's text, made as long as a table may be with spaces at its end; none of another size.
@@ -335,13 +426,9 @@ fn around(i: usize) -> String {
     format!("c{i} clockDef await 1 c{}", (i + 1) % 32)
 }
 
-/// The first records of the dense table.
-fn records(count: usize) -> (Vec<u64>, Vec<Record>) {
-    let lines: Vec<String> = dense_table()
-        .lines()
-        .take(count)
-        .map(String::from)
-        .collect();
+/// The first records of a table without parentheses.
+fn records(table: &str, count: usize) -> (Vec<u64>, Vec<Record>) {
+    let lines: Vec<&str> = table.lines().take(count).collect();
     records_of(&lines.join("\n"))
 }
 
@@ -358,7 +445,7 @@ impl Input {
         match self {
             Input::Run { table, recording } => {
                 let mut answer = [0; ccsl::raw::RUN_ANSWER];
-                let mut words = [0; WORDS];
+                let mut words = [0; ccsl::raw::WORDS];
                 ccsl::raw::run(
                     black_box(table),
                     black_box(recording),
@@ -377,26 +464,16 @@ impl Input {
                 black_box((&records, &names));
                 black_box(answer)[1] == *number
             }
-            Input::Step { numbers, words, .. } => {
-                let mut answer = [0; ccsl::raw::STEP_ANSWER];
-                ccsl::raw::step(
-                    black_box(numbers),
-                    CLOCKS,
-                    CLOCKS,
-                    black_box(words),
-                    u32::MAX,
-                    &mut answer,
-                );
-                black_box(answer)[0] == 0
-            }
+            Input::Step { numbers, words, .. } => library_step(numbers, words),
+            Input::Again { numbers, words, .. } => library_step(numbers, &mut words.clone()),
             Input::Place { numbers, words, .. } => {
                 let mut answer = [0; ccsl::raw::PLACE_ANSWER];
                 ccsl::raw::same_place(
                     black_box(numbers),
                     CLOCKS,
                     CLOCKS,
-                    black_box(words),
-                    words,
+                    black_box(words.as_flattened()),
+                    words.as_flattened(),
                     &mut answer,
                 );
                 black_box(answer)[0] == 0
@@ -435,16 +512,8 @@ impl Input {
                 let read = black_box(second_opinion::read_table(black_box(text)));
                 read.map_or_else(|refusal| refusal.number, |_| 0) == *number
             }
-            Input::Step { records, words, .. } => {
-                let answer = second_opinion::step(
-                    black_box(records),
-                    u64::from(CLOCKS),
-                    u64::from(CLOCKS),
-                    black_box(words),
-                    u32::MAX,
-                );
-                black_box(answer) == second_opinion::StepAnswer::Accepted
-            }
+            Input::Step { records, words, .. } => rust_step(records, words),
+            Input::Again { records, words, .. } => rust_step(records, &mut words.clone()),
             Input::Place { records, words, .. } => {
                 let answer = second_opinion::same_place(
                     black_box(records),
@@ -474,6 +543,32 @@ impl Input {
     }
 }
 
+/// Whether the proved library accepts a step in which every clock ticks.
+fn library_step(numbers: &[u64], words: &mut Configuration) -> bool {
+    let mut answer = [0; ccsl::raw::STEP_ANSWER];
+    ccsl::raw::step(
+        black_box(numbers),
+        CLOCKS,
+        CLOCKS,
+        black_box(words).as_flattened_mut(),
+        u32::MAX,
+        &mut answer,
+    );
+    black_box(answer)[0] == 0
+}
+
+/// Whether the separately written monitor does.
+fn rust_step(records: &[Record], words: &mut Configuration) -> bool {
+    let answer = second_opinion::step(
+        black_box(records),
+        u64::from(CLOCKS),
+        u64::from(CLOCKS),
+        black_box(words),
+        u32::MAX,
+    );
+    black_box(answer) == second_opinion::StepAnswer::Accepted
+}
+
 #[cfg(test)]
 mod tests {
     use super::*;
@@ -497,6 +592,32 @@ mod tests {
             (table.records.len(), table.named, table.clocks),
             (WORDS, u64::from(NAMED), u64::from(CLOCKS))
         );
+    }
+
+    #[test]
+    fn the_delays_plan_and_fire_and_are_used_up() {
+        let table = second_opinion::read_table(delays_table().as_bytes()).expect("it is read");
+        let delays = |records: &[Record]| {
+            let is_delay = |record: &&Record| record.kind == Kind::Deferred;
+            records.iter().filter(is_delay).count()
+        };
+        assert_eq!(
+            (table.records.len(), table.clocks, delays(&table.records)),
+            (WORDS, u64::from(CLOCKS), DELAYS)
+        );
+        let changes: String = (0..=32 * LIST).map(delays_ticks).collect();
+        let ticks = |clock: usize| {
+            let change = format!("1{}", id(clock as u32));
+            changes.lines().filter(|line| **line == change).count()
+        };
+        assert_eq!((ticks(0), ticks(1)), (LIST + 1, 32 * LIST + 1));
+        assert!((2..2 + DELAYS).all(|clock| ticks(clock) == LIST));
+        let Some(Input::Run { table, recording }) = input("delays", 1 << 16) else {
+            panic!("it is a run")
+        };
+        let ignored = second_opinion::UnknownNames::Ignored;
+        let report = second_opinion::run(&table, &recording, ignored);
+        assert_eq!(report.configuration[..DELAYS], [[0, LIST as i64]; DELAYS]);
     }
 
     #[test]

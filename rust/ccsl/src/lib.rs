@@ -8,7 +8,7 @@
 //! let recording = b"$var event 1 ! a $end $var event 1 % b $end $enddefinitions $end
 //!     #0 1! #4 1% #7 1%";
 //! let report = ccsl::run(table, recording);
-//! assert_eq!(report.to_string(), "violated 1 7\nsteps 2\nconfig 0\n");
+//! assert_eq!(report.to_string(), "violated 1 7\nsteps 2\nconfig 0 0\n");
 //! ```
 //!
 //! A variable whose name the table lacks is refused, with 38, so that a misspelt name is told; or it
@@ -20,10 +20,10 @@
 //! let table = b"a precedes b";
 //! let recording = b"$var event 1 ! a $end $var event 1 % b $end $var event 1 & lamp $end
 //!     $enddefinitions $end #0 1! 1& #4 1%";
-//! let refused = "refused 38 44\nsteps 0\nconfig 0\n";
+//! let refused = "refused 38 44\nsteps 0\nconfig 0 0\n";
 //! assert_eq!(run(table, recording).to_string(), refused);
 //! let report = run_with(table, recording, UnknownNames::Ignored);
-//! assert_eq!(report.to_string(), "accepted\nsteps 2\nconfig 0\n");
+//! assert_eq!(report.to_string(), "accepted\nsteps 2\nconfig 0 0\n");
 //! ```
 //!
 //! Or a monitor stands at the table's start words and is moved forward step by step:
@@ -32,7 +32,21 @@
 //! let table = ccsl::read_table(b"a precedes b").unwrap();
 //! let mut monitor = ccsl::Monitor::of_table(&table).unwrap();
 //! assert_eq!(monitor.step(0b01), ccsl::StepAnswer::Accepted);
-//! assert_eq!(monitor.words()[0], 1);
+//! assert_eq!(monitor.words()[0], [1, 0]);
+//! ```
+//!
+//! A configuration has two words a constraint. Those of a delay are its pending ticks and how many
+//! numbers of its list are used:
+//!
+//! ```
+//! let table = ccsl::read_table(b"c clockDef a deferred b for 2 3").unwrap();
+//! assert_eq!(table.records[0].delays, ccsl::Delays::of(&[2, 3]));
+//! let mut monitor = ccsl::Monitor::of_table(&table).unwrap();
+//! let (c, a, b) = (0b001, 0b010, 0b100);
+//! for (ticks, pair) in [(a, [0b10, 1]), (b, [0b1, 1]), (b | c, [0, 1])] {
+//!     assert_eq!(monitor.step(ticks), ccsl::StepAnswer::Accepted);
+//!     assert_eq!(monitor.words()[0], pair);
+//! }
 //! ```
 //!
 //! Definitions can be asked for in working order, each after those of its operands:
@@ -50,17 +64,23 @@
 //! assert_eq!(table.counts(), ccsl::Clocks { named: 3, count: 4 });
 //! let mut monitor = ccsl::Monitor::of_table(&table).unwrap();
 //! assert_eq!(monitor.step(0b011), ccsl::StepAnswer::Accepted);
-//! assert_eq!(monitor.words()[..2], [0, 1]);
+//! assert_eq!(monitor.words()[..2], [[0, 0], [1, 0]]);
 //! ```
 
 pub mod raw;
 
-pub use raw::WORDS;
 use std::fmt;
 use std::ops::Range;
 
-/// One word a record, in table order, the rest 0.
-pub type Configuration = [i64; WORDS];
+/// Pairs of a configuration.
+pub const PAIRS: usize = 64;
+
+/// The two words of a record: of a delay its pending ticks, bit k - 1 for the k-th next tick of b,
+/// and how many numbers of its list are used; of any other record what it remembers, and 0.
+pub type Pair = [i64; 2];
+
+/// A pair a record, in table order, the rest 0.
+pub type Configuration = [Pair; PAIRS];
 
 /// The form of a constraint. The order is that of the header's numbers.
 #[derive(Clone, Copy, Debug, PartialEq, Eq, Hash)]
@@ -93,10 +113,13 @@ pub enum Kind {
     Sampled,
     /// `c clockDef a upto b`: c with a until b ticks.
     Upto,
+    /// `c clockDef a deferred b for n …`: each a takes the next number n of the list, and c ticks
+    /// with the n-th b after that step.
+    Deferred,
 }
 
 /// All kinds; the place of a kind is its number in the header.
-pub const KINDS: [Kind; 14] = [
+pub const KINDS: [Kind; 15] = [
     Kind::Empty,
     Kind::Coincides,
     Kind::Excludes,
@@ -111,7 +134,31 @@ pub const KINDS: [Kind; 14] = [
     Kind::StrictlySampled,
     Kind::Sampled,
     Kind::Upto,
+    Kind::Deferred,
 ];
+
+/// The list of a delay: its first eight numbers, and how many it has. The numbers from `count` on are
+/// free.
+#[derive(Clone, Copy, Debug, PartialEq, Eq, Hash, Default)]
+pub struct Delays {
+    pub numbers: [u8; 8],
+    pub count: u64,
+}
+
+impl Delays {
+    /// This list, with zeros behind it. One of over eight numbers keeps its count, with which it is
+    /// refused.
+    pub fn of(list: &[u8]) -> Delays {
+        let mut numbers = [0; 8];
+        for (slot, number) in numbers.iter_mut().zip(list) {
+            *slot = *number;
+        }
+        Delays {
+            numbers,
+            count: list.len() as u64,
+        }
+    }
+}
 
 /// One constraint. What its kind does not name is free.
 #[derive(Clone, Copy, Debug, PartialEq, Eq, Hash)]
@@ -125,6 +172,8 @@ pub struct Record {
     pub second: u64,
     /// The number n of an await.
     pub number: u64,
+    /// The list of a delay.
+    pub delays: Delays,
     /// The line of the table, from 1.
     pub line: u64,
 }
@@ -281,13 +330,13 @@ pub fn run(table: &[u8], recording: &[u8]) -> Report {
 /// Judges a recording by a table, with this choice for variables whose names the table lacks.
 pub fn run_with(table: &[u8], recording: &[u8], unknown: UnknownNames) -> Report {
     let mut answer = [0; raw::RUN_ANSWER];
-    let mut configuration = [0; WORDS];
+    let mut configuration = [[0; 2]; PAIRS];
     done(raw::run(
         table,
         recording,
         unknown as u32,
         &mut answer,
-        &mut configuration,
+        configuration.as_flattened_mut(),
     ));
     let [outcome, first, second, steps, constraints] = answer;
     let verdict = match outcome {
@@ -346,14 +395,14 @@ impl Monitor {
         let mut monitor = Monitor {
             records: numbers(records),
             clocks,
-            words: [0; WORDS],
+            words: [[0; 2]; PAIRS],
         };
         let mut answer = [0; raw::START_ANSWER];
         done(raw::start_words(
             &monitor.records,
             clocks.named,
             clocks.count,
-            &mut monitor.words,
+            monitor.words.as_flattened_mut(),
             &mut answer,
         ));
         match answer {
@@ -387,8 +436,8 @@ pub fn same_place(
         &numbers(records),
         clocks.named,
         clocks.count,
-        first,
-        second,
+        first.as_flattened(),
+        second.as_flattened(),
         &mut answer,
     ));
     match answer {
@@ -433,7 +482,7 @@ fn step_by_numbers(
         records,
         clocks.named,
         clocks.count,
-        words,
+        words.as_flattened_mut(),
         ticks,
         &mut answer,
     ));
@@ -444,7 +493,7 @@ fn step_by_numbers(
     }
 }
 
-/// Records as the raw calls take them: six numbers each.
+/// Records as the raw calls take them: eight numbers each.
 pub fn numbers(records: &[Record]) -> Vec<u64> {
     let mut list = Vec::with_capacity(records.len() * raw::RECORD);
     for r in records {
@@ -455,12 +504,14 @@ pub fn numbers(records: &[Record]) -> Vec<u64> {
             r.second,
             r.number,
             r.line,
+            u64::from_le_bytes(r.delays.numbers),
+            r.delays.count,
         ]);
     }
     list
 }
 
-/// One record from its six numbers.
+/// One record from its eight numbers.
 fn record(numbers: &[u64]) -> Record {
     Record {
         kind: KINDS[numbers[0] as usize],
@@ -468,6 +519,10 @@ fn record(numbers: &[u64]) -> Record {
         first: numbers[2],
         second: numbers[3],
         number: numbers[4],
+        delays: Delays {
+            numbers: numbers[6].to_le_bytes(),
+            count: numbers[7],
+        },
         line: numbers[5],
     }
 }
@@ -521,7 +576,7 @@ impl fmt::Display for Verdict {
 impl fmt::Display for Report {
     fn fmt(&self, f: &mut fmt::Formatter<'_>) -> fmt::Result {
         write!(f, "{}\nsteps {}\nconfig", self.verdict, self.steps)?;
-        for word in self.configuration.iter().take(self.constraints) {
+        for word in self.configuration.iter().take(self.constraints).flatten() {
             write!(f, " {word}")?;
         }
         writeln!(f)

@@ -1,10 +1,12 @@
 //! The calls of `include/ccsl_monitor.h` on lent lists: the only place of this crate with `unsafe`.
 //!
-//! Each function here takes lists of any length with any numbers in them, and any numbers beside
-//! them, and returns the header's status.
+//! Each function here but [`layout`] takes lists of any length with any numbers in them, and any
+//! numbers beside them, and returns the header's status.
 
 mod header {
     extern "C" {
+        pub fn ccsl_layout() -> u32;
+
         pub fn ccsl_run(
             table: *const u8,
             table_len: usize,
@@ -81,15 +83,15 @@ mod header {
 pub const DONE: u32 = 0;
 /// `answer` has fewer numbers than the call writes.
 pub const ANSWER_SHORT: u32 = 1;
-/// A configuration has fewer than 64 words.
+/// A configuration has fewer than 128 words.
 pub const WORDS_SHORT: u32 = 2;
-/// [`read_table`]: `records` has fewer than 64 · 6 numbers.
+/// [`read_table`]: `records` has fewer than 64 · 8 numbers.
 pub const RECORDS_SHORT: u32 = 3;
 /// [`read_table`]: `names` has fewer than 32 · 2 numbers.
 pub const NAMES_SHORT: u32 = 4;
-/// The numbers of `records` do not come in sixes.
+/// The numbers of `records` do not come in eights.
 pub const RECORDS_RAGGED: u32 = 5;
-/// A record's kind is above that of `upto`.
+/// A record's kind is above that of `deferred`.
 pub const KIND_UNKNOWN: u32 = 6;
 /// [`definition_order`]: `order` has fewer than 32 numbers.
 pub const ORDER_SHORT: u32 = 7;
@@ -120,15 +122,25 @@ pub const STEP_ANSWER: usize = 3;
 pub const PLACE_ANSWER: usize = 3;
 /// Numbers that [`definition_order`] writes into `answer`.
 pub const ORDER_ANSWER: usize = 4;
-/// Numbers of a record: kind, c, a, b, n, line.
-pub const RECORD: usize = 6;
+/// Numbers of a record: kind, c, a, b, n, line, numbers, count.
+pub const RECORD: usize = 8;
 /// Records that [`read_table`] writes.
 pub const RECORDS: usize = 64;
 /// Pairs that [`read_table`] writes into `names`, and numbers that [`definition_order`] writes into
 /// `order`.
 pub const CLOCKS: usize = 32;
-/// Words of a configuration.
-pub const WORDS: usize = 64;
+/// Words of a configuration: two a record.
+pub const WORDS: usize = 128;
+
+/// The number of the layout of records and configurations that this crate has.
+pub const LAYOUT: u32 = 2;
+
+/// `ccsl_layout`: the number of the layout that the library has, which is [`LAYOUT`] where the two
+/// belong together.
+pub fn layout() -> u32 {
+    // SAFETY: the call takes nothing and only returns a number.
+    unsafe { header::ccsl_layout() }
+}
 
 /// `ccsl_run`.
 pub fn run(

@@ -1,8 +1,8 @@
 //! The calls on small inputs whose answers documents 01 and 02 and the header give.
 
 use ccsl::{
-    raw, Clock, Clocks, Kind, Monitor, Record, Refusal, SamePlace, StepAnswer, Steps, Time,
-    UnknownNames, Verdict, WORDS,
+    raw, Clock, Clocks, Configuration, Delays, Kind, Monitor, Record, Refusal, SamePlace,
+    StepAnswer, Steps, Time, UnknownNames, Verdict, PAIRS,
 };
 
 const TABLE: &[u8] = b"req strictly precedes ack\ndone clockDef await 2 ack\n";
@@ -21,6 +21,7 @@ fn relation(kind: Kind, first: u64, second: u64) -> Record {
         first,
         second,
         number: 0,
+        delays: Delays::default(),
         line: 1,
     }
 }
@@ -44,9 +45,12 @@ fn all_named(count: u32) -> Clocks {
     Clocks::all_named(count)
 }
 
-fn configuration(words: &[i64]) -> [i64; WORDS] {
-    let mut all = [0; WORDS];
-    all[..words.len()].copy_from_slice(words);
+/// The configuration of records that are no delays: behind each word stands a 0.
+fn configuration(words: &[i64]) -> Configuration {
+    let mut all = [[0; 2]; PAIRS];
+    for (pair, word) in all.iter_mut().zip(words) {
+        pair[0] = *word;
+    }
     all
 }
 
@@ -54,7 +58,7 @@ fn configuration(words: &[i64]) -> [i64; WORDS] {
 fn the_example_of_document_01_is_printed() {
     assert_eq!(
         ccsl::run(TABLE, RECORDING).to_string(),
-        "violated 1 9\nsteps 4\nconfig 0 0\n"
+        "violated 1 9\nsteps 4\nconfig 0 0 0 0\n"
     );
 }
 
@@ -89,6 +93,7 @@ fn the_example_is_read() {
                 first: 0,
                 second: 1,
                 number: 0,
+                delays: Delays::default(),
                 line: 1
             },
             Record {
@@ -97,6 +102,7 @@ fn the_example_is_read() {
                 first: 1,
                 second: 0,
                 number: 2,
+                delays: Delays::default(),
                 line: 2
             },
         ]
@@ -179,13 +185,13 @@ fn both_by(table: &[u8], recording: &str) -> [String; 2] {
 
 /// What a run by [`TABLE`] prints that is refused in the header: the words are the start words.
 fn in_the_header(number: u64, place: u64) -> String {
-    format!("refused {number} {place}\nsteps 0\nconfig 0 2\n")
+    format!("refused {number} {place}\nsteps 0\nconfig 0 0 2 0\n")
 }
 
 #[test]
 fn a_name_that_the_table_lacks_is_38_at_its_command() {
     let recording = String::from_utf8(RECORDING.to_vec()).unwrap();
-    let ignored = "violated 1 9\nsteps 4\nconfig 0 0\n".to_string();
+    let ignored = "violated 1 9\nsteps 4\nconfig 0 0 0 0\n".to_string();
     assert_eq!(both(&recording), [ignored.clone(), ignored.clone()]);
     // Before the three declarations of 24, 24 and 25 bytes, between them, and behind them.
     for place in [0, 24, 48, 73] {
@@ -304,7 +310,7 @@ fn names_are_compared_whole() {
         let [refused, _] = both_by(b"abcdefghijklmnop # b", &recording);
         refused
     };
-    assert_eq!(run("abcdefghijklmnop"), "accepted\nsteps 1\nconfig 0\n");
+    assert_eq!(run("abcdefghijklmnop"), "accepted\nsteps 1\nconfig 0 0\n");
     for name in [
         "abcdefghijklmno",
         "abcdefghijklmnopq",
@@ -316,7 +322,7 @@ fn names_are_compared_whole() {
         "abcdefgh",
         "ijklmnop",
     ] {
-        let refused = "refused 38 0\nsteps 0\nconfig 0\n";
+        let refused = "refused 38 0\nsteps 0\nconfig 0 0\n";
         assert_eq!(run(name), refused, "{name}");
     }
 }
@@ -332,7 +338,7 @@ fn as_many_names_are_known_as_a_table_can_have() {
             .collect();
         variables + "$enddefinitions $end #0 1v31"
     };
-    let config = "config".to_string() + &" 0".repeat(16);
+    let config = "config".to_string() + &" 0 0".repeat(16);
     let accepted = format!("accepted\nsteps 1\n{config}\n");
     let refused = format!("refused 38 832\nsteps 0\n{config}\n");
     assert_eq!(
@@ -349,7 +355,7 @@ fn as_many_names_are_known_as_a_table_can_have() {
 fn names_in_parentheses_are_known() {
     let recording = "$var event 1 ! a $end $var event 1 % b $end $var event 1 & c $end \
         $enddefinitions $end #3 1! 1%";
-    let accepted = "accepted\nsteps 1\nconfig 0 1\n";
+    let accepted = "accepted\nsteps 1\nconfig 0 0 1 0\n";
     assert_eq!(
         both_by(b"(a lub b) precedes c", recording),
         [accepted, accepted]
@@ -435,13 +441,13 @@ fn records_that_a_step_refuses_do_not_start() {
             StepAnswer::Refused(refusal)
         );
     }
-    let (mut a, mut w) = (left(4), left_words(66));
+    let (mut a, mut w) = (left(4), left_words(130));
     assert_eq!(
-        raw::start_words(&[10, 1, 0, 0, 0, 1], 2, 2, &mut w, &mut a),
+        raw::start_words(&[10, 1, 0, 0, 0, 1, 0, 0], 2, 2, &mut w, &mut a),
         raw::DONE
     );
     assert_eq!(a, [2, 59, 1, LEFT]);
-    assert_eq!((&w[..64], &w[64..]), (&[0; 64][..], &[LEFT_WORD; 2][..]));
+    assert_eq!((&w[..128], &w[128..]), (&[0; 128][..], &[LEFT_WORD; 2][..]));
 }
 
 #[test]
@@ -507,11 +513,12 @@ fn implicit_clocks_are_numbered_behind_all_names() {
     let (named, count) = (7, 12);
     assert_eq!(table.counts(), Clocks { named, count });
 
-    let (mut a, mut r, mut n) = (left(7), left(384), left(64));
+    let (mut a, mut r, mut n) = (left(7), left(512), left(64));
     assert_eq!(raw::read_table(text, &mut a, &mut r, &mut n), raw::DONE);
     assert_eq!(a, [0, 0, 0, 7, 12, 7, LEFT]);
-    assert_eq!(r[..12], [6, 7, 0, 1, 0, 1, 13, 8, 7, 2, 0, 1]);
-    assert_eq!(r[36..42], [10, 4, 11, 0, 2, 2]);
+    assert_eq!(r[..8], [6, 7, 0, 1, 0, 1, 0, 0]);
+    assert_eq!(r[8..16], [13, 8, 7, 2, 0, 1, 0, 0]);
+    assert_eq!(r[48..56], [10, 4, 11, 0, 2, 2, 0, 0]);
     assert_eq!(n[12..16], [74, 75, 0, 0]);
 }
 
@@ -556,11 +563,11 @@ fn a_run_records_named_clocks_alone() {
     let run = |body: &[u8]| ccsl::run(NESTED, &[&header[..], body].concat()).to_string();
     assert_eq!(
         run(b" #0 1% #2 1! 1% 1+ #3 1+ #7 1! 1&"),
-        "accepted\nsteps 4\nconfig 0 0 0\n"
+        "accepted\nsteps 4\nconfig 0 0 0 0 0 0\n"
     );
     assert_eq!(
         run(b" #0 1% #2 1+ #5 1! 1& 1+ #6 1!"),
-        "violated 1 5\nsteps 2\nconfig 0 1 0\n"
+        "violated 1 5\nsteps 2\nconfig 0 0 1 0 0 0\n"
     );
 }
 
@@ -817,9 +824,13 @@ fn a_definition_waits_for_both_operands_and_an_await_for_one() {
         Kind::StrictlySampled,
         Kind::Sampled,
         Kind::Upto,
+        Kind::Deferred,
     ] {
         for operands in [(1, 2), (2, 1)] {
-            let above = definition(kind, 0, operands.0, operands.1);
+            let above = Record {
+                delays: Delays::of(&[1]),
+                ..definition(kind, 0, operands.0, operands.1)
+            };
             assert_eq!(
                 ccsl::definition_order(&[above, below], all_named(4)),
                 Ok(vec![2, 1]),
@@ -928,7 +939,7 @@ fn a_table_with_a_circle_still_runs() {
         $var event 1 + d $end $enddefinitions $end #0 1& 1! #2 1+ #5 1! 1% 1+ #7 1%";
     assert_eq!(
         ccsl::run(text, recording).to_string(),
-        "violated 1 7\nsteps 3\nconfig 0 0\n"
+        "violated 1 7\nsteps 3\nconfig 0 0 0 0\n"
     );
     let [a, b, c, d] = [1 << 0, 1 << 1, 1 << 2, 1 << 3];
     let mut monitor = Monitor::of_table(&table).unwrap();
@@ -1081,9 +1092,10 @@ fn left_words(length: usize) -> Vec<i64> {
 #[test]
 fn too_short_a_list_for_a_run_is_told_and_nothing_written() {
     for (answer, words, status) in [
-        (4, 64, raw::ANSWER_SHORT),
+        (4, 128, raw::ANSWER_SHORT),
         (0, 0, raw::ANSWER_SHORT),
-        (5, 63, raw::WORDS_SHORT),
+        (5, 127, raw::WORDS_SHORT),
+        (5, 64, raw::WORDS_SHORT),
         (5, 0, raw::WORDS_SHORT),
     ] {
         for unknown in [raw::UNKNOWN_REFUSED, raw::UNKNOWN_IGNORED, 2, u32::MAX] {
@@ -1100,10 +1112,10 @@ fn a_choice_that_is_none_is_told_and_nothing_written() {
     let texts: [(&[u8], &[u8]); 3] = [(TABLE, RECORDING), (b"a = a", b""), (b"", b"")];
     for unknown in others.chain([u32::MAX - 1, u32::MAX]) {
         for (table, recording) in texts {
-            let (mut a, mut w) = (left(7), left_words(66));
+            let (mut a, mut w) = (left(7), left_words(130));
             let status = raw::run(table, recording, unknown, &mut a, &mut w);
             assert_eq!(status, raw::CHOICE_INVALID, "{unknown}");
-            assert_eq!((a, w), (left(7), left_words(66)), "{unknown}");
+            assert_eq!((a, w), (left(7), left_words(130)), "{unknown}");
         }
     }
 }
@@ -1112,28 +1124,29 @@ fn a_choice_that_is_none_is_told_and_nothing_written() {
 fn a_run_with_an_unknown_name_fills_its_lists() {
     let recording = [b"$var event 1 & lamp $end ", RECORDING].concat();
     for (unknown, answer, words) in [
-        (raw::UNKNOWN_REFUSED, [2, 38, 0, 0, 2], [0, 2]),
-        (raw::UNKNOWN_IGNORED, [1, 1, 9, 4, 2], [0, 0]),
+        (raw::UNKNOWN_REFUSED, [2, 38, 0, 0, 2], [0, 0, 2, 0]),
+        (raw::UNKNOWN_IGNORED, [1, 1, 9, 4, 2], [0, 0, 0, 0]),
     ] {
-        let (mut a, mut w) = (left(6), left_words(65));
+        let (mut a, mut w) = (left(6), left_words(129));
         assert_eq!(
             raw::run(TABLE, &recording, unknown, &mut a, &mut w),
             raw::DONE
         );
         assert_eq!((&a[..5], a[5]), (&answer[..], LEFT));
-        assert_eq!((&w[..2], &w[2..64]), (&words[..], &[0; 62][..]));
-        assert_eq!(w[64], LEFT_WORD);
+        assert_eq!((&w[..4], &w[4..128]), (&words[..], &[0; 124][..]));
+        assert_eq!(w[128], LEFT_WORD);
     }
 }
 
 #[test]
 fn too_short_a_list_for_a_table_is_told_and_nothing_written() {
     let cases = [
-        (5, 384, 64, raw::ANSWER_SHORT),
-        (5, 383, 63, raw::ANSWER_SHORT),
-        (6, 383, 64, raw::RECORDS_SHORT),
+        (5, 512, 64, raw::ANSWER_SHORT),
+        (5, 511, 63, raw::ANSWER_SHORT),
+        (6, 511, 64, raw::RECORDS_SHORT),
+        (6, 384, 64, raw::RECORDS_SHORT),
         (6, 0, 0, raw::RECORDS_SHORT),
-        (6, 384, 63, raw::NAMES_SHORT),
+        (6, 512, 63, raw::NAMES_SHORT),
     ];
     for (answer, records, names, status) in cases {
         let (mut a, mut r, mut n) = (left(answer), left(records), left(names));
@@ -1144,18 +1157,21 @@ fn too_short_a_list_for_a_table_is_told_and_nothing_written() {
 
 #[test]
 fn lists_of_a_wrong_shape_for_records_are_told_and_nothing_written() {
-    let good = [1, 0, 0, 1, 0, 1];
-    let unknown = [1, 0, 0, 1, 0, 1, 14, 0, 0, 1, 0, 2];
-    let cases: [(&[u64], usize, usize, u32); 9] = [
-        (&good, 2, 64, raw::ANSWER_SHORT),
-        (&unknown[..11], 0, 0, raw::ANSWER_SHORT),
-        (&good, 3, 63, raw::WORDS_SHORT),
-        (&unknown[..11], 3, 63, raw::WORDS_SHORT),
-        (&good[..5], 3, 64, raw::RECORDS_RAGGED),
-        (&good[..1], 3, 64, raw::RECORDS_RAGGED),
-        (&unknown[..11], 3, 64, raw::RECORDS_RAGGED),
-        (&unknown, 3, 64, raw::KIND_UNKNOWN),
-        (&[u64::MAX; 6], 3, 64, raw::KIND_UNKNOWN),
+    let good = [1, 0, 0, 1, 0, 1, 0, 0];
+    let unknown = [1, 0, 0, 1, 0, 1, 0, 0, 15, 0, 0, 1, 0, 2, 0, 0];
+    let cases: [(&[u64], usize, usize, u32); 12] = [
+        (&good, 2, 128, raw::ANSWER_SHORT),
+        (&unknown[..15], 0, 0, raw::ANSWER_SHORT),
+        (&good, 3, 127, raw::WORDS_SHORT),
+        (&good, 3, 64, raw::WORDS_SHORT),
+        (&unknown[..15], 3, 127, raw::WORDS_SHORT),
+        (&unknown, 3, 64, raw::WORDS_SHORT),
+        (&good[..7], 3, 128, raw::RECORDS_RAGGED),
+        (&good[..1], 3, 128, raw::RECORDS_RAGGED),
+        (&unknown[..15], 3, 128, raw::RECORDS_RAGGED),
+        (&unknown[..9], 3, 128, raw::RECORDS_RAGGED),
+        (&unknown, 3, 128, raw::KIND_UNKNOWN),
+        (&[u64::MAX; 8], 3, 128, raw::KIND_UNKNOWN),
     ];
     for (records, answer, words, status) in cases {
         let (mut a, mut w) = (left(answer), left_words(words));
@@ -1166,27 +1182,29 @@ fn lists_of_a_wrong_shape_for_records_are_told_and_nothing_written() {
         assert_eq!(raw::same_place(records, 2, 2, &w, &w, &mut a), status);
         assert_eq!(a, left(answer));
     }
-    let (mut a, w) = (left(3), left_words(64));
-    assert_eq!(
-        raw::same_place(&good, 2, 2, &w, &w[..63], &mut a),
-        raw::WORDS_SHORT
-    );
-    assert_eq!(
-        raw::same_place(&good, 2, 2, &w[..63], &w, &mut a),
-        raw::WORDS_SHORT
-    );
+    let (mut a, w) = (left(3), left_words(128));
+    for short in [0, 64, 127] {
+        assert_eq!(
+            raw::same_place(&good, 2, 2, &w, &w[..short], &mut a),
+            raw::WORDS_SHORT
+        );
+        assert_eq!(
+            raw::same_place(&good, 2, 2, &w[..short], &w, &mut a),
+            raw::WORDS_SHORT
+        );
+    }
     assert_eq!(a, left(3));
 }
 
 #[test]
 fn lists_of_a_wrong_shape_for_an_order_are_told_and_nothing_written() {
-    let good = [1, 0, 0, 1, 0, 1];
-    let unknown = [1, 0, 0, 1, 0, 1, 14, 0, 0, 1, 0, 2];
+    let good = [1, 0, 0, 1, 0, 1, 0, 0];
+    let unknown = [1, 0, 0, 1, 0, 1, 0, 0, 15, 0, 0, 1, 0, 2, 0, 0];
     let cases: [(&[u64], usize, usize, u32); 8] = [
         (&good, 3, 32, raw::ANSWER_SHORT),
-        (&unknown[..11], 0, 0, raw::ANSWER_SHORT),
-        (&good[..5], 4, 32, raw::RECORDS_RAGGED),
-        (&unknown[..11], 4, 0, raw::RECORDS_RAGGED),
+        (&unknown[..15], 0, 0, raw::ANSWER_SHORT),
+        (&good[..7], 4, 32, raw::RECORDS_RAGGED),
+        (&unknown[..15], 4, 0, raw::RECORDS_RAGGED),
         (&unknown, 4, 32, raw::KIND_UNKNOWN),
         (&unknown, 4, 0, raw::KIND_UNKNOWN),
         (&good, 4, 31, raw::ORDER_SHORT),
@@ -1207,83 +1225,81 @@ fn lists_of_a_wrong_shape_for_an_order_are_told_and_nothing_written() {
 
 #[test]
 fn an_unknown_kind_is_told_before_a_refusal() {
-    let (mut a, mut w) = (left(3), left_words(64));
-    assert_eq!(
-        raw::step(&[14, 0, 0, 0, 0, 0], 99, 99, &mut w, u32::MAX, &mut a),
-        raw::KIND_UNKNOWN
-    );
-    assert_eq!((a, w), (left(3), left_words(64)));
+    for kind in [15, 255, 256, 256 + 14, 1 << 32, u64::MAX] {
+        let (mut a, mut w) = (left(3), left_words(128));
+        let record = [kind, 0, 0, 0, 0, 0, 0, 0];
+        assert_eq!(
+            raw::step(&record, 99, 99, &mut w, u32::MAX, &mut a),
+            raw::KIND_UNKNOWN
+        );
+        assert_eq!((a, w), (left(3), left_words(128)));
+    }
 }
 
 #[test]
 fn of_longer_lists_the_rest_is_left_alone() {
     for unknown in [raw::UNKNOWN_REFUSED, raw::UNKNOWN_IGNORED] {
-        let (mut a, mut w) = (left(9), left_words(70));
+        let (mut a, mut w) = (left(9), left_words(134));
         assert_eq!(
             raw::run(TABLE, RECORDING, unknown, &mut a, &mut w),
             raw::DONE
         );
         assert_eq!(a, [1, 1, 9, 4, 2, LEFT, LEFT, LEFT, LEFT]);
-        assert_eq!((&w[..64], &w[64..]), (&[0; 64][..], &[LEFT_WORD; 6][..]));
+        assert_eq!((&w[..128], &w[128..]), (&[0; 128][..], &[LEFT_WORD; 6][..]));
     }
 
-    let (mut a, mut w) = (left(4), left_words(70));
-    assert_eq!(
-        raw::start_words(&[4, 0, 0, 1, 0, 1], 2, 2, &mut w, &mut a),
-        raw::DONE
-    );
+    let record = [4, 0, 0, 1, 0, 1, 0, 0];
+    let (mut a, mut w) = (left(4), left_words(134));
+    assert_eq!(raw::start_words(&record, 2, 2, &mut w, &mut a), raw::DONE);
     assert_eq!(a, [0, 0, 0, LEFT]);
-    assert_eq!((&w[..64], &w[64..]), (&[0; 64][..], &[LEFT_WORD; 6][..]));
+    assert_eq!((&w[..128], &w[128..]), (&[0; 128][..], &[LEFT_WORD; 6][..]));
 
     let mut a = left(4);
-    assert_eq!(
-        raw::step(&[4, 0, 0, 1, 0, 1], 2, 2, &mut w, 1, &mut a),
-        raw::DONE
-    );
+    assert_eq!(raw::step(&record, 2, 2, &mut w, 1, &mut a), raw::DONE);
     assert_eq!(a, [0, 0, 0, LEFT]);
-    assert_eq!((&w[..3], &w[64..]), (&[1, 0, 0][..], &[LEFT_WORD; 6][..]));
+    assert_eq!((w[0], &w[1..128]), (1, &[0; 127][..]));
+    assert_eq!(w[128..], [LEFT_WORD; 6]);
 
     let mut a = left(4);
-    assert_eq!(
-        raw::same_place(&[4, 0, 0, 1, 0, 1], 2, 2, &w, &w, &mut a),
-        raw::DONE
-    );
+    assert_eq!(raw::same_place(&record, 2, 2, &w, &w, &mut a), raw::DONE);
     assert_eq!(a, [0, 0, 0, LEFT]);
 }
 
 #[test]
 fn a_table_that_is_read_fills_its_lists_with_zeros() {
-    let (mut a, mut r, mut n) = (left(7), left(390), left(66));
+    let (mut a, mut r, mut n) = (left(7), left(518), left(66));
     assert_eq!(raw::read_table(TABLE, &mut a, &mut r, &mut n), raw::DONE);
     assert_eq!(a, [0, 0, 0, 2, 3, 3, LEFT]);
-    assert_eq!(r[..12], [4, 0, 0, 1, 0, 1, 10, 2, 1, 0, 2, 2]);
-    assert_eq!((&r[12..384], &r[384..]), (&[0; 372][..], &[LEFT; 6][..]));
+    assert_eq!(r[..8], [4, 0, 0, 1, 0, 1, 0, 0]);
+    assert_eq!(r[8..16], [10, 2, 1, 0, 2, 2, 0, 0]);
+    assert_eq!((&r[16..512], &r[512..]), (&[0; 496][..], &[LEFT; 6][..]));
     assert_eq!(n[..6], [0, 3, 22, 25, 26, 30]);
     assert_eq!((&n[6..64], &n[64..]), (&[0; 58][..], &[LEFT; 2][..]));
 }
 
 #[test]
 fn a_refused_table_leaves_its_lists_empty() {
-    let cases: [(&[u8], u64, u64); 4] = [
+    let cases: [(&[u8], u64, u64); 5] = [
+        (b"a = b\nc clockDef a deferred b for 1 33", 22, 2),
         (b"a = b\na # c\nb precedes", 12, 3),
         (b"(a lub b) = c\n(a lub b = c", 20, 2),
         (b"(a lub b) = c\n)(((((((((((((((((", 19, 2),
         (b"(a lub b) = c\n\n(a lub (b glb d)) = a", 15, 3),
     ];
     for (text, number, line) in cases {
-        let (mut a, mut r, mut n) = (left(6), left(384), left(64));
+        let (mut a, mut r, mut n) = (left(6), left(512), left(64));
         assert_eq!(raw::read_table(text, &mut a, &mut r, &mut n), raw::DONE);
         assert_eq!(a, [2, number, line, 0, 0, 0]);
-        assert_eq!((r, n), (vec![0; 384], vec![0; 64]));
+        assert_eq!((r, n), (vec![0; 512], vec![0; 64]));
 
         for unknown in [raw::UNKNOWN_REFUSED, raw::UNKNOWN_IGNORED] {
-            let (mut a, mut w) = (left(5), left_words(64));
+            let (mut a, mut w) = (left(5), left_words(128));
             assert_eq!(
                 raw::run(text, RECORDING, unknown, &mut a, &mut w),
                 raw::DONE
             );
             assert_eq!(a, [2, number, line, 0, 0]);
-            assert_eq!(w, [0; 64]);
+            assert_eq!(w, [0; 128]);
         }
     }
 }
@@ -1291,11 +1307,11 @@ fn a_refused_table_leaves_its_lists_empty() {
 #[test]
 fn words_out_of_range_are_handed_back() {
     let mut a = left(3);
-    let mut w = left_words(64);
+    let mut w = left_words(128);
     assert_eq!(
-        raw::step(&[4, 0, 0, 1, 0, 1], 2, 2, &mut w, 1, &mut a),
+        raw::step(&[4, 0, 0, 1, 0, 1, 0, 0], 2, 2, &mut w, 1, &mut a),
         raw::DONE
     );
     assert_eq!(a, [2, 60, 1]);
-    assert_eq!(w, left_words(64));
+    assert_eq!(w, left_words(128));
 }

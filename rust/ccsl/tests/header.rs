@@ -10,8 +10,8 @@ use std::path::{Path, PathBuf};
 /// More than any list of a call needs, and a number of whole records.
 const LONG: usize = 840;
 
-/// The constants of the kinds, each with a line of its form.
-const FORMS: [(&str, &str); 13] = [
+/// The constants of the kinds, each with a line of its form; dots stand for more numbers.
+const FORMS: [(&str, &str); 14] = [
     ("CCSL_COINCIDES", "a = b"),
     ("CCSL_EXCLUDES", "a # b"),
     ("CCSL_SUB_CLOCK", "a isSubClockOf b"),
@@ -25,15 +25,16 @@ const FORMS: [(&str, &str); 13] = [
     ("CCSL_STRICTLY_SAMPLED", "c clockDef a strictly sampled b"),
     ("CCSL_SAMPLED", "c clockDef a sampled b"),
     ("CCSL_UPTO", "c clockDef a upto b"),
+    ("CCSL_DEFERRED", "c clockDef a deferred b for 5 ..."),
 ];
 
 const TABLE: &[u8] = b"a precedes b";
 const RECORDING: &[u8] = b"$var event 1 ! a $end $var event 1 % b $end $enddefinitions $end";
 
 /// A record of `a precedes b`.
-fn precedes() -> [u64; 6] {
+fn precedes() -> [u64; 8] {
     let kind = KINDS.iter().position(|k| *k == ccsl::Kind::Precedes);
-    [kind.unwrap() as u64, 0, 0, 1, 0, 1]
+    [kind.unwrap() as u64, 0, 0, 1, 0, 1, 0, 0]
 }
 
 /// A call with lists of these lengths: its status and its answer.
@@ -88,12 +89,13 @@ fn measured() -> Vec<(&'static str, u64)> {
     all.extend(sizes());
     all.extend(kinds());
     all.extend(choices());
+    all.push(("CCSL_LAYOUT", u64::from(raw::layout())));
     all
 }
 
 fn statuses() -> Vec<(&'static str, u64)> {
     let (one, zeros) = (precedes(), vec![0; LONG]);
-    let unknown = [KINDS.len() as u64, 0, 0, 1, 0, 1];
+    let unknown = [KINDS.len() as u64, 0, 0, 1, 0, 1, 0, 0];
     let status = |called: Called| u64::from(called.0);
     vec![
         ("CCSL_DONE", status(run(RECORDING, LONG, LONG))),
@@ -145,7 +147,7 @@ fn statuses() -> Vec<(&'static str, u64)> {
 }
 
 fn outcomes() -> Vec<(&'static str, u64)> {
-    let (one, twice) = (precedes(), [5, 0, 1, 1, 0, 1]);
+    let (one, twice) = (precedes(), [5, 0, 1, 1, 0, 1, 0, 0]);
     let [zero, ahead, below] = [0, 1, -1].map(|word| {
         let mut words = vec![0; LONG];
         words[0] = word;
@@ -215,7 +217,10 @@ fn sizes() -> Vec<(&'static str, u64)> {
 
 /// The kind of each form is the first number of the record that the reader makes of a line.
 fn kinds() -> Vec<(&'static str, u64)> {
-    let record = |line: &str| read(line.as_bytes(), LONG, LONG, LONG).1[0];
+    let record = |line: &str| {
+        let line = line.replace("...", "6 7");
+        read(line.as_bytes(), LONG, LONG, LONG).1[0]
+    };
     let mut kinds = vec![("CCSL_EMPTY", record(""))];
     kinds.extend(FORMS.map(|(name, line)| (name, record(line))));
     kinds
@@ -344,9 +349,10 @@ fn prototypes(header: &str) -> Vec<Call> {
         .filter_map(|piece| piece.trim().strip_suffix(')')?.split_once('('))
         .map(|(head, list)| {
             let (returns, name) = type_and_name(head);
+            let parameters = list.split(',').filter(|item| item.trim() != "void");
             Call {
                 name,
-                parameters: list.split(',').map(type_and_name).collect(),
+                parameters: parameters.map(type_and_name).collect(),
                 returns,
             }
         })
@@ -505,12 +511,22 @@ fn the_header_is_read() {
         ("CCSL_UNKNOWN_IGNORED", 1),
         ("CCSL_REFUSED", 2),
         ("CCSL_CLOCKS", 32),
+        ("CCSL_WORDS", 128),
+        ("CCSL_RECORD", 8),
+        ("CCSL_LAYOUT", 2),
         ("CCSL_UPTO", 13),
+        ("CCSL_DEFERRED", 14),
     ] {
         assert!(constants.contains(&(name.to_string(), value)), "{name}");
     }
     let calls = prototypes(&header);
-    let step = calls.iter().find(|call| call.name == "ccsl_step").unwrap();
+    let named = |name: &str| calls.iter().find(|call| call.name == name).unwrap();
+    let layout = named("ccsl_layout");
+    assert_eq!(
+        (layout.parameters.len(), layout.returns.as_str()),
+        (0, "u32")
+    );
+    let step = named("ccsl_step");
     let pair = |of: &str, name: &str| (of.to_string(), name.to_string());
     assert_eq!(step.returns, "u32");
     assert_eq!(
@@ -530,7 +546,7 @@ fn the_header_is_read() {
 }
 
 #[test]
-fn six_wrong_headers_are_told() {
+fn eight_wrong_headers_are_told() {
     let right = header();
     let exchanged = |one: &str, other: &str| {
         let (first, second) = (format!("CCSL_{one} = "), format!("CCSL_{other} = "));
@@ -540,11 +556,13 @@ fn six_wrong_headers_are_told() {
     };
     let wrong = [
         exchanged("LUB", "GLB"),
+        exchanged("UPTO", "DEFERRED"),
         exchanged("RECORDS_SHORT", "NAMES_SHORT"),
         exchanged("ACCEPTED", "VIOLATED"),
         exchanged("UNKNOWN_REFUSED", "UNKNOWN_IGNORED"),
-        changed(&right, "CCSL_RECORD = 6", "CCSL_RECORD = 5"),
-        changed(&right, "CCSL_WORDS = 64", "CCSL_WORDS = 32"),
+        changed(&right, "CCSL_RECORD = 8", "CCSL_RECORD = 6"),
+        changed(&right, "CCSL_WORDS = 128", "CCSL_WORDS = 64"),
+        changed(&right, "CCSL_LAYOUT = 2", "CCSL_LAYOUT = 1"),
     ];
     for header in wrong {
         assert!(!faults(&header).is_empty());
@@ -581,6 +599,9 @@ fn other_prototypes_are_told() {
     let wrong = [
         ("const uint8_t *recording", "uint8_t *recording"),
         ("const int64_t *first", "const uint64_t *first"),
+        ("ccsl_layout(void)", "ccsl_layout(uint32_t layout)"),
+        ("uint32_t ccsl_layout(", "uint64_t ccsl_layout("),
+        ("uint32_t ccsl_layout(void);\n", ""),
         ("                   uint32_t ticks,\n", ""),
         ("                  uint32_t unknown,\n", ""),
         ("uint32_t unknown,", "uint8_t unknown,"),
@@ -619,10 +640,10 @@ fn what_is_held_to_nothing_is_told() {
     let right = header();
     let more = changed(
         &right,
-        "CCSL_UPTO = 13 ",
-        "CCSL_UPTO = 13, CCSL_DELAY = 14 ",
+        "CCSL_DEFERRED = 14 ",
+        "CCSL_DEFERRED = 14, CCSL_OTHER = 15 ",
     );
-    assert_eq!(faults(&more), ["CCSL_DELAY is held to nothing"]);
+    assert_eq!(faults(&more), ["CCSL_OTHER is held to nothing"]);
     let other = changed(
         &right,
         "/* c clockDef a glb b */",

@@ -5,25 +5,27 @@
 //! line:
 //!
 //! - `clocks 3`, and `named 2` where not all of them are named
-//! - `record precedes c=0 a=0 b=1 n=0`
-//! - `words 1 0`, or `first 1 0` and `second 1 0`
+//! - `record precedes c=0 a=0 b=1 n=0`, and of a delay its list: `record deferred c=2 a=0 b=1 for=2,3`
+//! - `words 1 5/2`, a pair a record, its first word alone where the second is 0; or `first 1 5/2` and
+//!   `second 1 5/2`
 //! - `ticks 0 1`
 //! - `answer accepted`, `violated 1`, `same`, `different`, `listed 2 1` or `refused 51 1`
 
-use ccsl::{Clocks, Configuration, Kind, Record, SamePlace, StepAnswer, KINDS, WORDS};
+use ccsl::{Clocks, Configuration, Delays, Kind, Record, SamePlace, StepAnswer, KINDS, PAIRS};
 use std::fs;
 use std::path::{Path, PathBuf};
 
 /// The numbers of a run with unknown names ignored, the one more with unknown names refused, and those
 /// of the calls on records.
-const OF_A_RUN: [u64; 24] = [
-    10, 11, 12, 13, 14, 15, 16, 17, 18, 19, 20, 30, 31, 32, 33, 34, 35, 36, 37, 40, 41, 42, 43, 44,
+const OF_A_RUN: [u64; 25] = [
+    10, 11, 12, 13, 14, 15, 16, 17, 18, 19, 20, 22, 30, 31, 32, 33, 34, 35, 36, 37, 40, 41, 42, 43,
+    44,
 ];
 const OF_A_STRICT_RUN: u64 = 38;
 const OF_A_CALL: [u64; 5] = [21, 51, 59, 60, 61];
 
 /// The words for the kinds, in the order of [`KINDS`].
-const WORDS_OF_KINDS: [&str; 14] = [
+const WORDS_OF_KINDS: [&str; 15] = [
     "empty",
     "coincides",
     "excludes",
@@ -38,6 +40,7 @@ const WORDS_OF_KINDS: [&str; 14] = [
     "strictly-sampled",
     "sampled",
     "upto",
+    "deferred",
 ];
 
 /// The call that a block asks.
@@ -94,7 +97,7 @@ fn block(asked: Asked, items: &[&str], at: usize) -> Block {
         asked,
         records: Vec::new(),
         clocks: Clocks::all_named(0),
-        configurations: [[0; WORDS]; 2],
+        configurations: [[[0; 2]; PAIRS]; 2],
         ticks: 0,
         answer: String::new(),
     };
@@ -127,9 +130,10 @@ fn number<T: std::str::FromStr>(word: &str, at: usize) -> T {
 }
 
 fn configuration(words: &str, at: usize) -> Configuration {
-    let mut all = [0; WORDS];
-    for (place, word) in words.split_whitespace().enumerate() {
-        all[place] = number(word, at);
+    let mut all = [[0; 2]; PAIRS];
+    for (place, pair) in words.split_whitespace().enumerate() {
+        let (first, second) = pair.split_once('/').unwrap_or((pair, "0"));
+        all[place] = [number(first, at), number(second, at)];
     }
     all
 }
@@ -147,20 +151,27 @@ fn record(words: &str, at: usize) -> Record {
         first: 0,
         second: 0,
         number: 0,
+        delays: Delays::default(),
         line: 0,
     };
     for word in words {
         let (field, value) = word.split_once('=').unwrap_or((word, ""));
-        let value = number(value, at);
         match field {
-            "c" => record.defined = value,
-            "a" => record.first = value,
-            "b" => record.second = value,
-            "n" => record.number = value,
+            "c" => record.defined = number(value, at),
+            "a" => record.first = number(value, at),
+            "b" => record.second = number(value, at),
+            "n" => record.number = number(value, at),
+            "for" => record.delays = delays(value, at),
             _ => panic!("line {at}: no such field: {word}"),
         }
     }
     record
+}
+
+/// The list of a delay, its numbers parted by commas; `for=` is the empty list.
+fn delays(list: &str, at: usize) -> Delays {
+    let words = list.split(',').filter(|word| !word.is_empty());
+    Delays::of(&words.map(|word| number(word, at)).collect::<Vec<u8>>())
 }
 
 /// What the library answers, in the words of the page.
@@ -269,9 +280,10 @@ fn every_number_of_a_run_has_a_folder() {
 
 #[test]
 fn blocks_are_read() {
-    let page = "text\n```step\nclocks 3\nrecord await c=2 a=1 n=2\nrecord upto c=0 a=1 b=2\n\
-        words 2 1\nticks 0 1\nanswer  refused 51  1\n```\n\
-        ```same-place\nnamed 1\nclocks 2\nfirst -1\nsecond 1\n```\n```order\n```\n";
+    let page = "text\n```step\nclocks 3\nrecord await c=2 a=1 n=2\n\
+        record deferred c=0 a=1 b=2 for=2,3\nwords 2 6/1\nticks 0 1\nanswer  refused 51  1\n```\n\
+        ```same-place\nnamed 1\nclocks 2\nfirst -1/3\nsecond 1\n```\n```order\n\
+        record deferred for=\n```\n";
     let blocks = blocks(page);
     assert_eq!(
         blocks.iter().map(|(at, _)| *at).collect::<Vec<_>>(),
@@ -294,13 +306,19 @@ fn blocks_are_read() {
             first: 1,
             second: 0,
             number: 2,
+            delays: Delays::default(),
             line: 0
         }
     );
-    assert_eq!(one.configurations[0][..3], [2, 1, 0]);
+    assert_eq!(
+        (one.records[1].kind, one.records[1].delays),
+        (Kind::Deferred, Delays::of(&[2, 3]))
+    );
+    assert_eq!(blocks[2].1.records[0].delays, Delays::default());
+    assert_eq!(one.configurations[0][..3], [[2, 0], [6, 1], [0, 0]]);
     assert_eq!((two.clocks.named, two.clocks.count), (1, 2));
     assert_eq!(
         (two.configurations[0][0], two.configurations[1][0]),
-        (-1, 1)
+        ([-1, 3], [1, 0])
     );
 }

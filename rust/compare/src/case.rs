@@ -2,7 +2,7 @@
 
 use ccsl::{Clocks, UnknownNames};
 use second_opinion::{
-    Configuration, Record, Refusal, Report, SamePlace, StepAnswer, Table, Verdict,
+    Configuration, Delays, Record, Refusal, Report, SamePlace, StepAnswer, Table, Verdict,
 };
 use std::fmt;
 use std::ops::Range;
@@ -39,7 +39,7 @@ pub enum Case {
         second: Configuration,
     },
     /// The same question, which the second monitor answers by looking at all continuations of at
-    /// most `depth` sets.
+    /// most `depth` sets, and for a delay at a longer one that is made for its two pairs.
     Search {
         records: Vec<Record>,
         clocks: Clocks,
@@ -229,22 +229,27 @@ fn write_records(f: &mut fmt::Formatter<'_>, records: &[Record]) -> fmt::Result 
         first,
         second,
         number,
+        delays,
         line,
     } in records
     {
-        writeln!(
+        write!(
             f,
             "  record {kind:?} c={defined} a={first} b={second} n={number} line={line}"
         )?;
+        if *delays != Delays::default() {
+            write!(f, " for={:?} count={}", delays.numbers, delays.length)?;
+        }
+        writeln!(f)?;
     }
     Ok(())
 }
 
-/// The words without the zeros at the end.
+/// The pairs without the zeros at the end.
 fn write_words(f: &mut fmt::Formatter<'_>, name: &str, words: &Configuration) -> fmt::Result {
     let length = words
         .iter()
-        .rposition(|word| *word != 0)
+        .rposition(|pair| *pair != [0, 0])
         .map_or(0, |last| last + 1);
     writeln!(f, "  {name}: {:?}", &words[..length])
 }

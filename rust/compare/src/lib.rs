@@ -5,6 +5,7 @@
 //! records or a table that is read, their working order is asked, too. Pair `n` of a seed is always
 //! the same question.
 
+pub mod apart;
 pub mod case;
 pub mod generate;
 pub mod monitors;

@@ -1,9 +1,10 @@
 //! The two monitors, asked the same questions and answering in the same words.
 
+use crate::apart;
 use crate::case::{table_clocks, Answer, Case, Read};
 use ccsl::{Clocks, UnknownNames};
 use second_opinion::{
-    Configuration, Kind, Record, Refusal, Report, SamePlace, StepAnswer, Verdict,
+    Configuration, Delays, Kind, Record, Refusal, Report, SamePlace, StepAnswer, Verdict,
 };
 use std::cell::Cell;
 use std::ops::Range;
@@ -155,7 +156,8 @@ fn counts(clocks: Clocks) -> (u64, u64) {
 }
 
 /// Same place by search: some record tells the two apart by a continuation of at most `depth` sets,
-/// or none does.
+/// or a delay, of which not all of these can be looked at, by the one that is made for its pairs, or
+/// none does.
 fn by_search(
     records: &[Record],
     clocks: Clocks,
@@ -169,7 +171,10 @@ fn by_search(
         return SamePlace::Refused(refusal);
     }
     let tells = |i: usize| {
-        second_opinion::told_apart(&records[i], named, count, first[i], second[i], depth).is_some()
+        let (record, one, other) = (&records[i], first[i], second[i]);
+        let depth = apart::searchable(record, one, other, depth);
+        second_opinion::told_apart(record, named, count, one, other, depth).is_some()
+            || apart::delay_tells(record, one, other)
     };
     if (0..records.len()).any(tells) {
         SamePlace::Different
@@ -221,8 +226,21 @@ pub fn named(record: Record) -> Record {
         } else {
             0
         },
+        delays: if record.kind == Kind::Deferred {
+            held(record.delays)
+        } else {
+            Delays::default()
+        },
         line: record.line,
     }
+}
+
+/// A list with zeros past its length.
+fn held(mut delays: Delays) -> Delays {
+    let past = delays.numbers.iter_mut().zip(0..);
+    past.filter(|(_, place)| *place >= delays.length)
+        .for_each(|(number, _)| *number = 0);
+    delays
 }
 
 /// Whether a kind defines a clock.
@@ -230,7 +248,7 @@ pub fn defines(kind: Kind) -> bool {
     use Kind::*;
     matches!(
         kind,
-        Union | Inter | Lub | Glb | Await | StrictlySampled | Sampled | Upto
+        Union | Inter | Lub | Glb | Await | StrictlySampled | Sampled | Upto | Deferred
     )
 }
 
@@ -244,7 +262,7 @@ pub fn operands(record: &Record) -> Vec<u64> {
 }
 
 /// All kinds, in the order in which [`ccsl::KINDS`] has them.
-pub const KINDS: [Kind; 14] = [
+pub const KINDS: [Kind; 15] = [
     Kind::Empty,
     Kind::Coincides,
     Kind::Excludes,
@@ -259,6 +277,7 @@ pub const KINDS: [Kind; 14] = [
     Kind::StrictlySampled,
     Kind::Sampled,
     Kind::Upto,
+    Kind::Deferred,
 ];
 
 fn to_library(records: &[Record]) -> Vec<ccsl::Record> {
@@ -271,6 +290,10 @@ fn to_library(records: &[Record]) -> Vec<ccsl::Record> {
         first: r.first,
         second: r.second,
         number: r.number,
+        delays: ccsl::Delays {
+            numbers: r.delays.numbers,
+            count: r.delays.length,
+        },
         line: r.line,
     };
     records.iter().map(one).collect()
@@ -283,6 +306,10 @@ fn read(table: ccsl::Table) -> Read {
         first: r.first,
         second: r.second,
         number: r.number,
+        delays: Delays {
+            numbers: r.delays.numbers,
+            length: r.delays.count,
+        },
         line: r.line,
     };
     let start = ccsl::Monitor::of_table(&table).map(|monitor| *monitor.words());

@@ -4,7 +4,7 @@
 use crate::case::Case;
 use crate::monitors::{defines, operands};
 use ccsl::{Clocks, UnknownNames};
-use second_opinion::{Configuration, Kind, Record, WORDS};
+use second_opinion::{Configuration, Kind, Pair, Record, WORDS};
 use std::cell::Cell;
 use std::cmp::Ordering;
 
@@ -40,7 +40,7 @@ fn size(case: &Case) -> usize {
             table, recording, ..
         } => table.len() + recording.len(),
         Case::Read { text } => text.len(),
-        _ => 48 * records(case).len(),
+        _ => 64 * records(case).len(),
     }
 }
 
@@ -204,14 +204,14 @@ fn starts_of_commands(text: &[u8], at: usize) -> bool {
                 && !rest.starts_with(b"$end\n"))
 }
 
-/// A record with its words in the first and the second configuration.
-type Row = (Record, i64, i64);
+/// A record with its pairs in the first and the second configuration.
+type Row = (Record, Pair, Pair);
 
 /// The configurations of a case; a single step has the same one twice, start words and orders ask of
 /// none.
 fn configurations(case: &Case) -> (&Configuration, &Configuration) {
     match case {
-        Case::Start { .. } | Case::Order { .. } => (&[0; WORDS], &[0; WORDS]),
+        Case::Start { .. } | Case::Order { .. } => (&[[0, 0]; WORDS], &[[0, 0]; WORDS]),
         Case::Step { words, .. } => (words, words),
         Case::Place { first, second, .. } | Case::Search { first, second, .. } => (first, second),
         Case::Run { .. } | Case::Read { .. } => unreachable!("texts have no configuration"),
@@ -224,23 +224,23 @@ fn records(case: &Case) -> &[Record] {
 
 fn rows(case: &Case) -> Vec<Row> {
     let (first, second) = configurations(case);
-    let word = |words: &Configuration, place: usize| words.get(place).copied().unwrap_or(0);
+    let pair = |words: &Configuration, place: usize| words.get(place).copied().unwrap_or_default();
     records(case)
         .iter()
         .enumerate()
-        .map(|(place, record)| (*record, word(first, place), word(second, place)))
+        .map(|(place, record)| (*record, pair(first, place), pair(second, place)))
         .collect()
 }
 
-/// The case with these rows for its records; the words beyond the records stay beyond them.
+/// The case with these rows for its records; the pairs beyond the records stay beyond them.
 fn with_rows(case: &Case, rows: &[Row]) -> Case {
     let old = records(case).len().min(WORDS);
-    let moved = |words: &Configuration, word: fn(&Row) -> i64| {
-        let mut moved = [0; WORDS];
+    let moved = |words: &Configuration, pair: fn(&Row) -> Pair| {
+        let mut moved = [[0, 0]; WORDS];
         let all = rows
             .iter()
             .take(WORDS)
-            .map(word)
+            .map(pair)
             .chain(words[old..].iter().copied());
         moved.iter_mut().zip(all).for_each(|(to, from)| *to = from);
         moved
@@ -296,6 +296,7 @@ fn simplifications(case: &Case) -> Vec<Case> {
             *field_of(&mut rows[place].0, field) = 0;
             found.push(with_rows(case, &rows));
         }
+        found.extend(shorter_lists(case, place));
     }
     if let Some(clocks) = clocks(case) {
         found.extend(lower_counts(clocks).map(|clocks| with_clocks(case, clocks)));
@@ -304,24 +305,111 @@ fn simplifications(case: &Case) -> Vec<Case> {
     match case {
         Case::Step { words, ticks, .. } => {
             found.extend((0..32).map(|bit| with_step(case, *words, ticks & !(1 << bit))));
-            found.extend(zeroed(words).map(|words| with_step(case, words, *ticks)));
+            let lower = lowered(words).into_iter();
+            found.extend(lower.map(|words| with_step(case, words, *ticks)));
         }
         Case::Place { first, second, .. } | Case::Search { first, second, .. } => {
-            found.extend(zeroed(first).map(|words| with_place(case, words, *second)));
-            found.extend(zeroed(second).map(|words| with_place(case, *first, words)));
+            let one = lowered(first).into_iter().map(|words| (words, *second));
+            let other = lowered(second).into_iter().map(|words| (*first, words));
+            let both = lowered_alike(first, second);
+            let all = one.chain(other).chain(both);
+            found.extend(all.map(|(one, other)| with_place(case, one, other)));
         }
-        Case::Run { .. } => found.push(with_refused(case)),
-        Case::Start { .. } | Case::Order { .. } | Case::Read { .. } => {}
+        Case::Run {
+            table,
+            recording,
+            unknown,
+        } => {
+            let with = |table, recording, unknown| Case::Run {
+                table,
+                recording,
+                unknown,
+            };
+            found.push(with(
+                table.clone(),
+                recording.clone(),
+                UnknownNames::Refused,
+            ));
+            let renamed = with_short_names(table, recording);
+            found.extend(renamed.map(|(table, recording)| with(table, recording, *unknown)));
+            // The variables that fewer names leave are ignored, until they are taken out.
+            let fewer = without_line(table).into_iter().chain(flattened(table));
+            found.extend(fewer.map(|table| with(table, recording.clone(), UnknownNames::Ignored)));
+        }
+        Case::Read { text } => {
+            let read = |text| Case::Read { text };
+            found.extend(with_short_names(text, b"").map(|(text, _)| read(text)));
+            found.extend(flattened(text).into_iter().map(read));
+        }
+        Case::Start { .. } | Case::Order { .. } => {}
     }
     found
 }
 
-fn with_refused(case: &Case) -> Case {
-    let mut case = case.clone();
-    if let Case::Run { unknown, .. } = &mut case {
-        *unknown = UnknownNames::Refused;
+/// The tables without one of the lines.
+fn without_line(text: &[u8]) -> Vec<Vec<u8>> {
+    let lines = pieces(text, starts_of_lines);
+    let without = |place: usize| {
+        let mut lines = lines.clone();
+        lines.remove(place);
+        lines.concat()
+    };
+    let is_line = |place: &usize| !lines[*place].is_empty();
+    (0..lines.len()).filter(is_line).map(without).collect()
+}
+
+/// The table and the recording with a letter for a longer name.
+fn with_short_names<'a>(
+    table: &'a [u8],
+    recording: &'a [u8],
+) -> impl Iterator<Item = (Vec<u8>, Vec<u8>)> + 'a {
+    let table_words = || table.split(|byte| b" \n()".contains(byte));
+    let is_free = move |letter: &u8| !table_words().any(|word| word == [*letter]);
+    let letter = (b'a'..=b'z').find(is_free);
+    let names = second_opinion::read_table(table).map_or(Vec::new(), |table| table.names);
+    let longer = names.into_iter().filter(|name| name.len() > 1);
+    longer.filter_map(move |name| {
+        let (name, letter) = (name.as_bytes(), letter?);
+        Some((
+            renamed(table, b" \n()", name, letter),
+            renamed(recording, b" \n\t\r", name, letter),
+        ))
+    })
+}
+
+/// The text with a letter for each word that is this name.
+fn renamed(text: &[u8], parting: &[u8], name: &[u8], letter: u8) -> Vec<u8> {
+    let mut renamed = Vec::new();
+    for piece in text.split_inclusive(|byte| parting.contains(byte)) {
+        match piece.strip_prefix(name) {
+            Some(behind) if behind.is_empty() || parting.contains(&behind[0]) => {
+                renamed.push(letter);
+                renamed.extend(behind);
+            }
+            _ => renamed.extend(piece),
+        }
     }
-    case
+    renamed
+}
+
+/// The tables with one line made a definition by what stands in a pair of its parentheses.
+fn flattened(text: &[u8]) -> Vec<Vec<u8>> {
+    let mut found = Vec::new();
+    for (from, to) in pairs(text) {
+        let start = text[..from].iter().rposition(|byte| *byte == b'\n');
+        let start = start.map_or(0, |place| place + 1);
+        let end = text[to..].iter().position(|byte| *byte == b'\n');
+        let end = end.map_or(text.len(), |length| to + length);
+        let outside = [&text[start..from], b" ", &text[to + 1..end]].concat();
+        for name in outside.split(|byte| b" ()".contains(byte)) {
+            if name.first().is_some_and(u8::is_ascii_alphabetic) {
+                let line = [name, b" clockDef ", &text[from + 1..to]].concat();
+                found.push([&text[..start], &line, &text[end..]].concat());
+            }
+        }
+    }
+    found.retain(|flat| flat.len() < text.len());
+    found
 }
 
 /// The cases without one of the definitions, with one of its operands for the clock that it defines:
@@ -440,13 +528,79 @@ fn clocks_of(record: &mut Record) -> Vec<&mut u64> {
     }
 }
 
-/// The configurations with one word made 0.
-fn zeroed(words: &Configuration) -> impl Iterator<Item = Configuration> + '_ {
-    (0..WORDS).filter(|place| words[*place] != 0).map(|place| {
-        let mut words = *words;
-        words[place] = 0;
-        words
-    })
+/// The cases in which the list of one record has other lengths or numbers, all lower; and those without
+/// one of its numbers, which is then not among those used.
+fn shorter_lists(case: &Case, place: usize) -> Vec<Case> {
+    let rows = rows(case);
+    let delays = rows[place].0.delays;
+    let mut found = Vec::new();
+    let mut with = |change: &dyn Fn(&mut Row)| {
+        let mut rows = rows.clone();
+        change(&mut rows[place]);
+        found.push(with_rows(case, &rows));
+    };
+    for length in [0, 1, 8, 9].into_iter().filter(|l| *l < delays.length) {
+        with(&|row| row.0.delays.length = length);
+    }
+    for at in (0..8).filter(|at| (*at as u64) < delays.length && delays.length <= 8) {
+        with(&|(record, one, other)| {
+            record.delays.numbers.copy_within(at + 1.., at);
+            record.delays.numbers[7] = 0;
+            record.delays.length -= 1;
+            for used in [&mut one[1], &mut other[1]] {
+                *used -= i64::from(*used > at as i64);
+            }
+        });
+    }
+    for (at, number) in delays.numbers.into_iter().enumerate() {
+        for lower in [0, 1, number / 2].into_iter().filter(|l| *l < number) {
+            with(&|row| row.0.delays.numbers[at] = lower);
+        }
+    }
+    found
+}
+
+/// Each word of a configuration, by its place and its half of the pair there.
+fn halves() -> impl Iterator<Item = (usize, usize)> {
+    (0..WORDS).flat_map(|place| [(place, 0), (place, 1)])
+}
+
+/// The configurations with one word made 0, or without one of its bits.
+fn lowered(words: &Configuration) -> Vec<Configuration> {
+    let mut found = Vec::new();
+    for (place, half) in halves() {
+        for lower in lower_words(words[place][half]) {
+            let mut words = *words;
+            words[place][half] = lower;
+            found.push(words);
+        }
+    }
+    found
+}
+
+/// 0, and of a pending word what is left without one of its bits.
+fn lower_words(word: i64) -> Vec<i64> {
+    let bits = (0..32).map(|bit| 1 << bit);
+    let bits = bits.filter(|bit| (0..1 << 32).contains(&word) && word & bit != 0);
+    let mut lower = vec![0; usize::from(word != 0)];
+    lower.extend(bits.map(|bit| word ^ bit).filter(|left| *left != 0));
+    lower
+}
+
+/// The two configurations with one word that they share made lower in both.
+fn lowered_alike(
+    first: &Configuration,
+    second: &Configuration,
+) -> Vec<(Configuration, Configuration)> {
+    let mut found = Vec::new();
+    for (place, half) in halves().filter(|(p, h)| first[*p][*h] == second[*p][*h]) {
+        for lower in lower_words(first[place][half]) {
+            let (mut one, mut other) = (*first, *second);
+            (one[place][half], other[place][half]) = (lower, lower);
+            found.push((one, other));
+        }
+    }
+    found
 }
 
 fn with_step(case: &Case, new_words: Configuration, new_ticks: u32) -> Case {
@@ -468,6 +622,7 @@ fn with_place(case: &Case, one: Configuration, other: Configuration) -> Case {
 #[cfg(test)]
 mod tests {
     use super::*;
+    use second_opinion::Delays;
 
     #[test]
     fn a_text_shrinks_to_what_is_needed() {
@@ -516,6 +671,64 @@ mod tests {
     }
 
     #[test]
+    fn a_run_that_differs_with_both_choices_is_soon_as_small_as_can_be() {
+        let case = Case::Run {
+            table: b"a # b\nb # c".to_vec(),
+            recording: b"#7 #8".to_vec(),
+            unknown: UnknownNames::Refused,
+        };
+        let asked = Cell::new(0);
+        let differs = |case: &Case| {
+            asked.set(asked.get() + 1);
+            matches!(case, Case::Run { recording, .. } if recording.contains(&b'7'))
+        };
+        let smallest = smallest(&case, &differs);
+        let Case::Run {
+            table,
+            recording,
+            unknown,
+        } = &smallest
+        else {
+            panic!("{smallest}")
+        };
+        let texts = (table.as_slice(), recording.as_slice());
+        assert_eq!(texts, (&b""[..], &b"7"[..]), "{smallest}");
+        assert_eq!(*unknown, UnknownNames::Refused, "{smallest}");
+        assert!(asked.get() < 100, "asked {} times", asked.get());
+    }
+
+    #[test]
+    fn a_run_shrinks_to_a_flat_line_of_short_names() {
+        let case = Case::Run {
+            table: b"x = y\nlong precedes (one glb (two upto three))".to_vec(),
+            recording: b"$var event 1 ! two $end $var event 1 \" one $end".to_vec(),
+            unknown: UnknownNames::Refused,
+        };
+        let differs = |case: &Case| match case {
+            Case::Run {
+                table, recording, ..
+            } => second_opinion::read_table(table).is_ok_and(|table| {
+                let upto = table.records.iter().find(|r| r.kind == Kind::Upto);
+                let name = upto.map(|record| {
+                    format!("$var event 1 ! {} ", table.names[record.first as usize])
+                });
+                name.is_some_and(|name| String::from_utf8_lossy(recording).contains(&name))
+            }),
+            _ => false,
+        };
+        let found = smallest(&case, &differs);
+        let Case::Run {
+            table, recording, ..
+        } = &found
+        else {
+            panic!("{found}")
+        };
+        let read = second_opinion::read_table(table).expect("a table");
+        assert_eq!((read.records.len(), table.len()), (1, 19), "{found}");
+        assert_eq!(recording.len(), 17, "{found}");
+    }
+
+    #[test]
     fn counts_shrink_with_the_numbers_of_the_clocks() {
         let record = |kind, defined, first, second| Record {
             kind,
@@ -523,12 +736,13 @@ mod tests {
             first,
             second,
             number: 0,
+            delays: Delays::default(),
             line: 0,
         };
         let case = |named, count, records, ticks| Case::Step {
             records,
             clocks: Clocks { named, count },
-            words: [0; WORDS],
+            words: [[0, 0]; WORDS],
             ticks,
         };
         let long = case(
@@ -574,6 +788,7 @@ mod tests {
             first,
             second,
             number: 1,
+            delays: Delays::default(),
             line: 0,
         };
         let mut circle: Vec<Record> = (0..9)
@@ -595,6 +810,47 @@ mod tests {
     }
 
     #[test]
+    fn a_delay_shrinks_to_a_short_list_and_few_bits() {
+        let delay = |numbers, length| Record {
+            kind: Kind::Deferred,
+            defined: 0,
+            first: 1,
+            second: 2,
+            number: 0,
+            delays: Delays { numbers, length },
+            line: 0,
+        };
+        let place = |record, one, other| {
+            let (mut first, mut second) = ([[0, 0]; WORDS], [[0, 0]; WORDS]);
+            (first[0], second[0]) = (one, other);
+            Case::Place {
+                records: vec![record],
+                clocks: Clocks::all_named(3),
+                first,
+                second,
+            }
+        };
+        let differs = |case: &Case| {
+            let Case::Place {
+                records,
+                clocks,
+                first,
+                second,
+            } = case
+            else {
+                return false;
+            };
+            let (named, count) = (clocks.named.into(), clocks.count.into());
+            let answer = second_opinion::same_place(records, named, count, first, second);
+            answer == second_opinion::SamePlace::Different && first[0][0] & second[0][0] & 4 == 4
+        };
+        let long = place(delay([9, 32, 7, 4, 5, 6, 255, 0], 6), [0xF7, 2], [0xF7, 5]);
+        let short = place(delay([1, 0, 0, 0, 0, 0, 0, 0], 1), [4, 0], [4, 1]);
+        let found = smallest(&long, &differs);
+        assert!(found == short, "{found}");
+    }
+
+    #[test]
     fn records_shrink_with_their_words() {
         let record = |kind, line| Record {
             kind,
@@ -602,10 +858,11 @@ mod tests {
             first: 1,
             second: 2,
             number: 7,
+            delays: Delays::default(),
             line,
         };
-        let mut words = [0; WORDS];
-        words[..4].copy_from_slice(&[5, 6, 7, 8]);
+        let mut words = [[0, 0]; WORDS];
+        words[..4].copy_from_slice(&[[5, 0], [6, 0], [7, 0], [8, 0]]);
         let case = Case::Step {
             records: vec![
                 record(Kind::Union, 1),
@@ -624,18 +881,19 @@ mod tests {
                 ..
             } => {
                 let glb = records.iter().position(|record| record.kind == Kind::Glb);
-                ticks & 2 == 2 && glb.is_some_and(|place| words[place] == 7)
+                ticks & 2 == 2 && glb.is_some_and(|place| words[place] == [7, 0])
             }
             _ => false,
         };
-        let mut left = [0; WORDS];
-        left[0] = 7;
+        let mut left = [[0, 0]; WORDS];
+        left[0] = [7, 0];
         let glb = Record {
             kind: Kind::Glb,
             defined: 0,
             first: 0,
             second: 0,
             number: 0,
+            delays: Delays::default(),
             line: 0,
         };
         assert!(

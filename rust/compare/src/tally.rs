@@ -3,14 +3,14 @@
 use crate::case::{Answer, Case};
 use crate::generate::{Group, GROUPS};
 use ccsl::UnknownNames;
-use second_opinion::{SamePlace, StepAnswer, Verdict};
+use second_opinion::{Kind, Record, SamePlace, StepAnswer, Verdict};
 use std::collections::BTreeMap;
 use std::fmt;
 
 /// Every refusal number of documents 01 and 02, as far as its requests were carried out.
-pub const REFUSALS: [u64; 30] = [
-    10, 11, 12, 13, 14, 15, 16, 17, 18, 19, 20, 21, 30, 31, 32, 33, 34, 35, 36, 37, 38, 40, 41, 42,
-    43, 44, 51, 59, 60, 61,
+pub const REFUSALS: [u64; 31] = [
+    10, 11, 12, 13, 14, 15, 16, 17, 18, 19, 20, 21, 22, 30, 31, 32, 33, 34, 35, 36, 37, 38, 40, 41,
+    42, 43, 44, 51, 59, 60, 61,
 ];
 
 /// Counts of what came up.
@@ -28,6 +28,7 @@ pub struct Tally {
     /// Working orders that are not the order of the records.
     moved: u64,
     nested: Nested,
+    delayed: Delayed,
     choices: Choices,
 }
 
@@ -61,6 +62,66 @@ impl Nested {
             {
                 self.steps += 1;
             }
+            _ => {}
+        }
+    }
+}
+
+/// Counts of what came up with delays.
+#[derive(Clone, Copy, Debug, Default)]
+pub struct Delayed {
+    /// Tables that were read.
+    pub tables: u64,
+    /// Runs by a table that was read.
+    pub runs: u64,
+    /// Accepted steps of those runs.
+    pub steps_of_runs: u64,
+    /// Accepted steps of the longest of those runs that was accepted whole.
+    pub longest: u64,
+    /// Runs at whose end a delay has ticks pending.
+    pub pending: u64,
+    /// Runs at whose end a delay has used more numbers than it has ticks pending.
+    pub over: u64,
+    /// Single steps that were accepted.
+    pub steps: u64,
+    /// Equal and different places.
+    pub places: u64,
+}
+
+/// Whether one of the records is a delay.
+fn has_delay(records: &[Record]) -> bool {
+    records.iter().any(|record| record.kind == Kind::Deferred)
+}
+
+impl Delayed {
+    fn count(&mut self, case: &Case, answer: &Answer) {
+        match (case, answer) {
+            (_, Answer::Read(Ok(read))) if has_delay(&read.records) => self.tables += 1,
+            (Case::Run { table, .. }, Answer::Run(report)) if report.constraints > 0 => {
+                let table = second_opinion::read_table(table).unwrap_or_default();
+                if !has_delay(&table.records) {
+                    return;
+                }
+                self.runs += 1;
+                self.steps_of_runs += report.steps;
+                if report.verdict == Verdict::Accepted {
+                    self.longest = self.longest.max(report.steps);
+                }
+                let pairs = table.records.iter().zip(&report.configuration);
+                let delays = pairs.filter(|(record, _)| record.kind == Kind::Deferred);
+                let mut delays = delays.map(|(_, pair)| (pair[0].count_ones(), pair[1]));
+                self.pending += u64::from(delays.clone().any(|(pending, _)| pending > 0));
+                self.over += u64::from(delays.any(|(pending, used)| used > i64::from(pending)));
+            }
+            (Case::Step { records, .. }, Answer::Step(StepAnswer::Accepted, _))
+                if has_delay(records) =>
+            {
+                self.steps += 1;
+            }
+            (
+                Case::Place { records, .. } | Case::Search { records, .. },
+                Answer::Place(SamePlace::Same | SamePlace::Different),
+            ) if has_delay(records) => self.places += 1,
             _ => {}
         }
     }
@@ -105,6 +166,7 @@ impl Tally {
             *self.refusals.entry(refusal.number).or_default() += 1;
         }
         self.nested.count(case, answer);
+        self.delayed.count(case, answer);
         self.choices.count(case, answer);
         match answer {
             Answer::Run(report) => {
@@ -146,6 +208,11 @@ impl Tally {
     /// What came up with implicit clocks.
     pub fn nested(&self) -> Nested {
         self.nested
+    }
+
+    /// What came up with delays.
+    pub fn delayed(&self) -> Delayed {
+        self.delayed
     }
 
     /// Runs by the choice for unknown names.
@@ -209,6 +276,19 @@ impl fmt::Display for Tally {
             ("runs", self.nested.runs),
             ("steps of runs", self.nested.steps_of_runs),
             ("steps accepted", self.nested.steps),
+        ] {
+            writeln!(f, "  {words:<20} {count:>9}")?;
+        }
+        writeln!(f, "with delays:")?;
+        for (words, count) in [
+            ("tables read", self.delayed.tables),
+            ("runs", self.delayed.runs),
+            ("steps of runs", self.delayed.steps_of_runs),
+            ("longest accepted run", self.delayed.longest),
+            ("runs, some pending", self.delayed.pending),
+            ("runs, some over", self.delayed.over),
+            ("steps accepted", self.delayed.steps),
+            ("places compared", self.delayed.places),
         ] {
             writeln!(f, "  {words:<20} {count:>9}")?;
         }

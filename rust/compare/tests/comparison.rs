@@ -54,6 +54,18 @@ fn mixed_questions_agree_and_meet_every_refusal_number() {
         nested.steps,
     ];
     assert!(counts.iter().all(|count| *count >= 50), "{nested:?}");
+    let delayed = tally.delayed();
+    let counts = [
+        delayed.tables,
+        delayed.runs,
+        delayed.steps_of_runs,
+        delayed.longest,
+        delayed.pending,
+        delayed.over,
+        delayed.steps,
+        delayed.places,
+    ];
+    assert!(counts.iter().all(|count| *count >= 50), "{delayed:?}");
     let choices = tally.choices();
     assert!(
         choices.refused_with_steps >= 150 && choices.ignored_with_steps >= 500,
@@ -63,13 +75,18 @@ fn mixed_questions_agree_and_meet_every_refusal_number() {
 
 #[test]
 fn tables_agree() {
-    for (seed, group, nested) in [
-        (2, Group::Table, 150),
-        (3, Group::TableLimits, 20),
-        (4, Group::DamagedTable, 5),
+    for (seed, group, nested, delayed) in [
+        (2, Group::Table, 150, 400),
+        (3, Group::TableLimits, 20, 50),
+        (4, Group::DamagedTable, 5, 20),
     ] {
         let tally = agree(seed, 1500, group);
         assert!(tally.nested().tables >= nested, "{tally}");
+        assert!(tally.delayed().tables >= delayed, "{tally}");
+        assert!(
+            tally.refusals(22) >= 60 || group != Group::TableLimits,
+            "{tally}"
+        );
     }
 }
 
@@ -82,13 +99,17 @@ fn short_runs_agree() {
     );
     let nested = tally.nested();
     assert!(nested.runs >= 200 && nested.steps_of_runs >= 800, "{tally}");
+    let delayed = tally.delayed();
+    assert!(delayed.pending >= 100 && delayed.over >= 50, "{tally}");
 }
 
 #[test]
 fn long_runs_agree() {
     agree(6, 200, Group::MediumRun);
-    let tally = agree(7, 12, Group::LongRun);
+    let tally = agree(34, 12, Group::LongRun);
     assert!(tally.longest() > 2000, "{tally}");
+    let delayed = tally.delayed();
+    assert!(delayed.longest > 2000 && delayed.over > 0, "{tally}");
 }
 
 #[test]
@@ -163,6 +184,7 @@ fn steps_and_places_agree() {
         "{steps}"
     );
     assert!(steps.nested().steps >= 300, "{steps}");
+    assert!(steps.delayed().steps >= 500, "{steps}");
     let places = agree(12, 3000, Group::SamePlace);
     assert!(
         places.answers("places the same") >= 300 && places.answers("places different") >= 300,
@@ -172,11 +194,12 @@ fn steps_and_places_agree() {
 
 #[test]
 fn places_agree_with_a_search_of_all_continuations() {
-    let places = agree(13, 600, Group::SamePlaceBySearch);
+    let places = agree(13, 1200, Group::SamePlaceBySearch);
     assert!(
-        places.answers("places the same") >= 100 && places.answers("places different") >= 100,
+        places.answers("places the same") >= 200 && places.answers("places different") >= 200,
         "{places}"
     );
+    assert!(places.delayed().places >= 300, "{places}");
 }
 
 #[test]

@@ -54,6 +54,28 @@ fn an_expression_in_parentheses_is_shown_by_its_whole_line() {
 }
 
 #[test]
+fn a_delay_is_shown_with_its_list() {
+    let (delay, nested) = (
+        "c clockDef a deferred b for 2 3",
+        "a clockDef (d deferred e for 32 1) upto f",
+    );
+    assert_eq!(
+        order(&format!("{delay}\n{nested}\nb clockDef d lub e\n")),
+        listed(&format!(
+            "2 2 {nested}\n3 2 {nested}\n4 3 b clockDef d lub e\n1 1 {delay}\n"
+        ))
+    );
+    assert_eq!(
+        order("c clockDef a deferred b for 1\nb clockDef c deferred a for 1\n"),
+        refused("refused 21 1\n1 1 c clockDef a deferred b for 1\n")
+    );
+    assert_eq!(
+        order("\nc clockDef a deferred b for 2 33\n"),
+        refused("refused 22 2\n")
+    );
+}
+
+#[test]
 fn a_circle_is_refused_with_its_lowest_record_below() {
     assert_eq!(
         order("c clockDef b upto d\nd # e\nb clockDef a lub e\na clockDef b glb d\n"),

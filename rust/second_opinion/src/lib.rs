@@ -16,6 +16,9 @@
 //! Since M-103 a whole run is told what becomes of "a variable whose name the
 //! table lacks": it is refused "by default", or ignored.
 //!
+//! Since M-105 there are delays, and "every constraint's part of a configuration
+//! becomes two words".
+//!
 //! The crate is written from the scope paper (document 01) and the change
 //! requests (document 02) alone, and shares nothing with the monitor that it is
 //! held against. Quoted sentences in these comments are the scope paper's, or a
@@ -24,6 +27,7 @@
 #![forbid(unsafe_code)]
 #![warn(missing_docs)]
 
+mod delay;
 mod order;
 mod place;
 mod recording;
@@ -32,6 +36,7 @@ mod run;
 mod step;
 mod table;
 
+pub use delay::Delays;
 pub use order::definition_order;
 pub use place::{same_place, told_apart, SamePlace};
 pub use recording::UnknownNames;
@@ -40,11 +45,16 @@ pub use run::{run, Report, Verdict};
 pub use step::{start_words, step, StepAnswer};
 pub use table::{read_table, Table};
 
-/// "A configuration is 64 words, one a constraint in table order, the rest 0."
+/// "A configuration is 64 words, one a constraint in table order, the rest 0";
+/// since M-105 64 pairs of words.
 pub const WORDS: usize = 64;
 
-/// The words of all constraints, in table order.
-pub type Configuration = [i64; WORDS];
+/// A constraint's two words: "for a delay, the pending ticks … and the numbers
+/// used; for all others the second is 0" (M-105), the first being w.
+pub type Pair = [i64; 2];
+
+/// The pairs of all constraints, in table order.
+pub type Configuration = [Pair; WORDS];
 
 /// The most clocks that a table, or a list of records, may speak of.
 pub(crate) const CLOCKS: usize = 32;

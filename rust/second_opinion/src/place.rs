@@ -4,7 +4,8 @@
 //! count; the list may be empty, and so may any set. One record judges it with
 //! a w of its own … No other record and no answer of a call comes in." Two
 //! configurations stand at the same place when every record accepts the same
-//! continuations from its word in the one and from its word in the other.
+//! continuations from its pair of words in the one and from its pair in the
+//! other.
 //!
 //! "The same-place rule treats them as clocks that a continuation sets freely"
 //! (M-101): implicit clocks are clocks below the clock count like all others.
@@ -12,7 +13,7 @@
 use std::collections::HashSet;
 
 use crate::step::{check_records, check_words};
-use crate::{judge, Configuration, Record, Refusal, CLOCKS};
+use crate::{judge, Configuration, Pair, Record, Refusal, CLOCKS};
 
 /// The answer to the same-place question.
 #[derive(Clone, Copy, Debug, PartialEq, Eq)]
@@ -26,11 +27,13 @@ pub enum SamePlace {
 }
 
 /// Whether two configurations stand at the same place, by rule: they do exactly
-/// when each record's two words are equal.
+/// when each record's pair in the one is its pair in the other: "the same-place
+/// rule … and 60 speak of pairs" (M-105).
 ///
-/// Equal words are judged alike, set for set. Unequal words v < w, both in
-/// range, are always told apart: 59 makes a record's clocks distinct and lets
-/// each tick or not as we like, and 51 is set aside. What tells them apart, and
+/// Equal pairs are judged alike, set for set. Unequal ones, both in range, are
+/// always told apart: 59 makes a record's clocks distinct and lets each tick or
+/// not as we like, and 51 is set aside. Of all forms but the delay the second
+/// word is 0, so the first words are unequal, v < w. What tells them apart, and
 /// from which word it is not accepted:
 ///
 /// * no word of its own: 0 is the only word in range, so none are unequal.
@@ -49,6 +52,15 @@ pub enum SamePlace {
 /// * `sampled`: 1 asks for c on {b}, 0 and 2 do not; {a, b} fails from 2, and
 ///   not from 0.
 /// * `upto`: {a} fails from 1, and not from 0.
+/// * `deferred`, pending ticks unequal: let the k-th next tick of b be the first
+///   that is planned in one of the pairs alone. k - 1 times {b} or {b, c}, as
+///   both have planned, then {b, c}; the last fails from the other pair.
+/// * `deferred`, pending ticks p equal, numbers used u < v, the list's length l:
+///   D(p), l - v times {a}, D(q), {a}, n - 1 times {b}, then {b, c}. Here D(x)
+///   is 32 times {b} or {b, c}, as x has planned; q is what the l - v numbers
+///   after u plan, and n is the number after those. It fails from v, whose last
+///   l - v numbers plan something else than q, so that D(q) fails, or else are
+///   used up with it, so that nothing is planned at the end.
 ///
 /// `told_apart` looks for such continuations without knowing any of this.
 ///
@@ -66,7 +78,7 @@ pub fn same_place(
     if let Err(refusal) = checked {
         return SamePlace::Refused(refusal);
     }
-    // Beyond the records both are 0 by now.
+    // Beyond the records all is 0 by now.
     if first == second {
         SamePlace::Same
     } else {
@@ -74,15 +86,15 @@ pub fn same_place(
     }
 }
 
-/// Two words that one continuation leads to, and how it came there.
+/// Two pairs that one continuation leads to, and how it came there.
 struct Reached {
-    words: (i64, i64),
+    pairs: (Pair, Pair),
     length: usize,
     came_by: Option<(usize, u32)>,
 }
 
 /// By search: a continuation of at most `depth` sets of clocks below `clocks`
-/// that the record, judged by itself, accepts from one of the two words and not
+/// that the record, judged by itself, accepts from one of the two pairs and not
 /// from the other. The shortest are tried first.
 ///
 /// A record looks at its own clocks alone, so of all tick sets that agree on
@@ -93,32 +105,32 @@ pub fn told_apart(
     record: &Record,
     _named: u64,
     clocks: u64,
-    one: i64,
-    other: i64,
+    one: Pair,
+    other: Pair,
     depth: usize,
 ) -> Option<Vec<u32>> {
     let sets = tick_sets(record, clocks);
     let mut seen = HashSet::from([(one, other)]);
     let mut reached = vec![Reached {
-        words: (one, other),
+        pairs: (one, other),
         length: 0,
         came_by: None,
     }];
     let mut next = 0;
-    while let Some(&Reached { words, length, .. }) = reached.get(next) {
+    while let Some(&Reached { pairs, length, .. }) = reached.get(next) {
         if length == depth {
             break; // what follows is at least as long
         }
         for &set in &sets {
-            let (one_holds, one_after) = judge(record, words.0, set);
-            let (other_holds, other_after) = judge(record, words.1, set);
+            let (one_holds, one_after) = judge(record, pairs.0, set);
+            let (other_holds, other_after) = judge(record, pairs.1, set);
             if one_holds != other_holds {
                 return Some(continuation(&reached, next, set));
             }
             let after = (one_after, other_after);
             if one_holds && seen.insert(after) {
                 reached.push(Reached {
-                    words: after,
+                    pairs: after,
                     length: length + 1,
                     came_by: Some((next, set)),
                 });

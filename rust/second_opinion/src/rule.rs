@@ -3,6 +3,9 @@
 use std::cmp::Ordering;
 use std::ops::RangeInclusive;
 
+use crate::delay::{self, Delays};
+use crate::Pair;
+
 /// The gap limit: precedence counts from 0 to a million, lub and glb count a
 /// million either way.
 const MILLION: i64 = 1_000_000;
@@ -42,6 +45,8 @@ pub enum Kind {
     Sampled,
     /// `c clockDef a upto b`
     Upto,
+    /// `c clockDef a deferred b for n …` (M-105)
+    Deferred,
 }
 
 impl Kind {
@@ -50,12 +55,13 @@ impl Kind {
         use Kind::*;
         match self {
             Empty | Coincides | Excludes | SubClock | StrictlyPrecedes | Precedes => false,
-            Union | Inter | Lub | Glb | Await | StrictlySampled | Sampled | Upto => true,
+            Union | Inter | Lub | Glb | Await | StrictlySampled | Sampled | Upto | Deferred => true,
         }
     }
 }
 
-/// c, a, b, n and the table line; what the kind does not name means nothing.
+/// c, a, b, n, the list of a delay and the table line; what the kind does not
+/// name means nothing.
 #[derive(Clone, Copy, Debug, PartialEq, Eq, Hash)]
 pub struct Record {
     /// The form.
@@ -68,6 +74,8 @@ pub struct Record {
     pub second: u64,
     /// The await number n.
     pub number: u64,
+    /// The list of a delay; where a table is read, no numbers in any other form.
+    pub delays: Delays,
     /// The table line, from 1.
     pub line: u64,
 }
@@ -90,31 +98,42 @@ impl Record {
         self.defines().into_iter().chain(self.operands())
     }
 
-    /// The range of the record's word.
-    pub(crate) fn range(&self) -> RangeInclusive<i64> {
-        match self.kind {
+    /// The ranges of the record's two words.
+    pub(crate) fn ranges(&self) -> [RangeInclusive<i64>; 2] {
+        let word = match self.kind {
             Kind::StrictlyPrecedes | Kind::Precedes => 0..=MILLION,
             Kind::Lub | Kind::Glb => -MILLION..=MILLION,
             Kind::Await | Kind::StrictlySampled | Kind::Sampled | Kind::Upto => {
-                0..=start_word(self)
+                0..=start_word(self)[0]
             }
+            // "pending 0 to 2^32 - 1" (M-105)
+            Kind::Deferred => 0..=4_294_967_295,
             // "Stateless words are 0, their only value in range."
             _ => 0..=0,
-        }
+        };
+        let second = match self.kind {
+            // "used 0 to the list's length" (M-105)
+            Kind::Deferred => 0..=i64::try_from(self.delays.length).unwrap_or(i64::MAX),
+            // "for all others the second is 0" (M-105)
+            _ => 0..=0,
+        };
+        [word, second]
     }
 }
 
-/// The start word of a record.
+/// The start pair of a record: its start word, and 0. A delay has nothing
+/// pending yet and no number used.
 ///
 /// An await number that no `i64` holds is far out of range, and refused (14,
 /// 59) before its word matters; it gives the largest word here.
-pub fn start_word(record: &Record) -> i64 {
-    match record.kind {
+pub fn start_word(record: &Record) -> Pair {
+    let word = match record.kind {
         Kind::Await => i64::try_from(record.number).unwrap_or(i64::MAX),
         Kind::StrictlySampled | Kind::Sampled => 2,
         Kind::Upto => 1,
         _ => 0,
-    }
+    };
+    [word, 0]
 }
 
 /// Which of a record's three clocks tick in a step.
@@ -136,18 +155,18 @@ impl Ticks {
     }
 }
 
-/// One record judged by itself: whether it holds with word `word` on the tick
-/// set, and its word after (without limit 51).
+/// One record judged by itself: whether it holds with its words `pair` on the
+/// tick set, and its pair after (without limit 51).
 ///
-/// A record that fails moves nothing, so the word after is then the word given.
+/// A record that fails moves nothing, so the pair after is then the pair given.
 /// A clock number that no tick set can hold never ticks, and a count that would
 /// leave `i64` stays at its end; neither can happen behind refusals 59 and 60.
-pub fn judge(record: &Record, word: i64, ticks: u32) -> (bool, i64) {
+pub fn judge(record: &Record, pair: Pair, ticks: u32) -> (bool, Pair) {
     let ticks = Ticks::of(record, ticks);
-    if holds(record.kind, word, ticks) {
-        (true, word_after(record.kind, word, ticks))
+    if holds(record.kind, pair[0], ticks) {
+        (true, pair_after(record, pair, ticks))
     } else {
-        (false, word)
+        (false, pair)
     }
 }
 
@@ -193,14 +212,18 @@ fn holds(kind: Kind, word: i64, Ticks { c, a, b }: Ticks) -> bool {
         },
         // "c exactly when w = 1, a and not b"
         Kind::Upto => c == (word == 1 && a && !b),
+        // "c then ticks with the n-th tick of b" (M-105), and never without b
+        Kind::Deferred => c == (b && delay::due_with_b(word)),
     }
 }
 
-/// The change in the column "Word: start, range, change".
-fn word_after(kind: Kind, word: i64, Ticks { a, b, .. }: Ticks) -> i64 {
-    match kind {
+/// The change in the column "Word: start, range, change". The second word is a
+/// delay's alone to change.
+fn pair_after(record: &Record, [word, second]: Pair, Ticks { a, b, .. }: Ticks) -> Pair {
+    let after = match record.kind {
+        Kind::Deferred => return delay::pair_after(&record.delays, [word, second], a, b),
         // "keeps word 0, also where one is handed in"
-        Kind::Empty => 0,
+        Kind::Empty => return [0, 0],
         // "none"
         Kind::Coincides | Kind::Excludes | Kind::SubClock | Kind::Union | Kind::Inter => word,
         // "plus 1 for a, minus 1 for b"
@@ -226,5 +249,6 @@ fn word_after(kind: Kind, word: i64, Ticks { a, b, .. }: Ticks) -> i64 {
         // "1 to 0 on b"
         Kind::Upto if word == 1 && b => 0,
         Kind::Upto => word,
-    }
+    };
+    [after, second]
 }

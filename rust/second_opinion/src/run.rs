@@ -48,7 +48,8 @@ pub struct Report {
 
 impl fmt::Display for Report {
     /// "prints three lines: verdict, `steps n`, `config` and a word for each
-    /// constraint"
+    /// constraint"; since M-105 "the `config` line" has "two numbers a
+    /// constraint".
     fn fmt(&self, f: &mut fmt::Formatter<'_>) -> fmt::Result {
         match self.verdict {
             Verdict::Accepted => writeln!(f, "accepted")?,
@@ -59,8 +60,8 @@ impl fmt::Display for Report {
         }
         writeln!(f, "steps {}", self.steps)?;
         write!(f, "config")?;
-        for word in self.configuration.iter().take(self.constraints) {
-            write!(f, " {word}")?;
+        for [word, second] in self.configuration.iter().take(self.constraints) {
+            write!(f, " {word} {second}")?;
         }
         writeln!(f)
     }
@@ -76,7 +77,7 @@ pub fn run(table: &[u8], recording: &[u8], unknown: UnknownNames) -> Report {
             verdict: refusal.into(),
             steps: 0,
             constraints: 0,
-            configuration: [0; WORDS],
+            configuration: [[0, 0]; WORDS],
         },
     }
 }
@@ -218,13 +219,13 @@ mod tests {
         let table = read_table(b"a precedes b").expect("a table");
         let header = "$var event 1 ! a $end $var event 1 \" b $end $enddefinitions $end";
         let mut monitor = Monitor::start(&table);
-        monitor.configuration[0] = 999_999;
+        monitor.configuration[0] = [999_999, 0];
         let recording = format!("{header} #1 1! #2 1! 1\" #3 1! #4");
         let answer = monitor.read(recording.as_bytes(), UnknownNames::Ignored);
         let offset = recording.find("#3").expect("the mark");
         assert_eq!(answer, Err(Verdict::Refused(Refusal::new(51, offset))));
         assert_eq!(monitor.steps, Steps(2));
-        assert_eq!(monitor.configuration[0], 1_000_000);
+        assert_eq!(monitor.configuration[0], [1_000_000, 0]);
     }
 
     /// The same for an implicit lub: b takes its word to -1,000,000, a and b
@@ -234,12 +235,12 @@ mod tests {
         let table = read_table(b"(a lub b) # c").expect("a table");
         let header = "$var event 1 ! a $end $var event 1 \" b $end $var event 1 % c $end";
         let mut monitor = Monitor::start(&table);
-        monitor.configuration[0] = -999_999;
+        monitor.configuration[0] = [-999_999, 0];
         let recording = format!("{header} $enddefinitions $end #1 1\" 1% #2 1! 1\" #3 1\" 1%");
         let answer = monitor.read(recording.as_bytes(), UnknownNames::Ignored);
         let offset = recording.find("#3").expect("the mark");
         assert_eq!(answer, Err(Verdict::Refused(Refusal::new(51, offset))));
         assert_eq!(monitor.steps, Steps(2));
-        assert_eq!(monitor.configuration[..2], [-1_000_000, 0]);
+        assert_eq!(monitor.configuration[..2], [[-1_000_000, 0], [0, 0]]);
     }
 }

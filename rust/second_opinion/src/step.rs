@@ -4,7 +4,7 @@ use std::iter;
 use std::ops::RangeInclusive;
 
 use crate::rule::AWAIT_NUMBERS;
-use crate::{judge, start_word, Configuration, Kind, Record, Refusal, CLOCKS, WORDS};
+use crate::{judge, start_word, Configuration, Kind, Pair, Record, Refusal, CLOCKS, WORDS};
 
 /// The answer to a single step.
 #[derive(Clone, Copy, Debug, PartialEq, Eq)]
@@ -26,9 +26,9 @@ pub fn start_words(records: &[Record], named: u64, clocks: u64) -> Result<Config
 
 /// The start words: "one a constraint in table order, the rest 0".
 pub(crate) fn start(records: &[Record]) -> Configuration {
-    let mut configuration = [0; WORDS];
-    for (word, record) in configuration.iter_mut().zip(records) {
-        *word = start_word(record);
+    let mut configuration = [[0, 0]; WORDS];
+    for (pair, record) in configuration.iter_mut().zip(records) {
+        *pair = start_word(record);
     }
     configuration
 }
@@ -74,7 +74,7 @@ pub(crate) enum Stop {
 /// "All formulas use the words from before the step", so the new words are
 /// gathered beside the old ones. 51 is asked "after every constraint held"; only
 /// the forms that count can leave their range, since the other words fall
-/// towards 0 and stay there.
+/// towards 0 and stay there, and a delay's never plan past 32 ticks of b.
 pub(crate) fn advance(
     records: &[Record],
     named: u64,
@@ -83,14 +83,14 @@ pub(crate) fn advance(
 ) -> Result<(), Stop> {
     let ticks = with_implicit_ticks(records, named, configuration, ticks);
     let mut next = *configuration;
-    for (index, (record, word)) in records.iter().zip(&mut next).enumerate() {
-        let (holds, after) = judge(record, *word, ticks);
+    for (index, (record, pair)) in records.iter().zip(&mut next).enumerate() {
+        let (holds, after) = judge(record, *pair, ticks);
         if !holds {
             return Err(Stop::Fails(index));
         }
-        *word = after;
+        *pair = after;
     }
-    if let Some(index) = first_outside(records.iter().map(Record::range), &next) {
+    if let Some(index) = first_outside(records.iter().map(Record::ranges), &next) {
         return Err(Stop::LeavesItsMillion(index));
     }
     *configuration = next;
@@ -110,12 +110,12 @@ fn with_implicit_ticks(
     ticks: u32,
 ) -> u32 {
     let mut ticks = ticks;
-    for (record, &word) in records.iter().zip(configuration) {
+    for (record, &pair) in records.iter().zip(configuration) {
         let Some(clock) = record.defines().filter(|&clock| clock >= named) else {
             continue;
         };
         let with_clock = ticks | 1 << clock;
-        if judge(record, word, with_clock).0 {
+        if judge(record, pair, with_clock).0 {
             ticks = with_clock;
         }
     }
@@ -148,13 +148,18 @@ pub(crate) fn check_records(records: &[Record], named: u64, clocks: u64) -> Resu
 
 /// Whether a record has no "clock number not below the clock count", no "clock
 /// twice" and no "await number out of range", "nothing else of it being
-/// tested".
+/// tested"; nor "a delay number or the list's length (none included)" out of
+/// range, which "in a record made by hand … is 59" (M-105).
 fn well_formed(record: &Record, clocks: u64) -> bool {
     let mut named = ClockSet::default();
     record
         .clocks()
         .all(|clock| clock < clocks && named.insert(clock))
-        && (record.kind != Kind::Await || AWAIT_NUMBERS.contains(&record.number))
+        && match record.kind {
+            Kind::Await => AWAIT_NUMBERS.contains(&record.number),
+            Kind::Deferred => record.delays.in_range(),
+            _ => true,
+        }
 }
 
 /// A set of clock numbers below 32.
@@ -184,27 +189,33 @@ impl ClockSet {
     }
 }
 
-/// 60: "configuration word out of range, or a word beyond the records not 0".
+/// 60: "configuration word out of range, or a word beyond the records not 0",
+/// which since M-105 speaks of pairs, "the place the pair's".
 pub(crate) fn check_words(
     records: &[Record],
     configuration: &Configuration,
 ) -> Result<(), Refusal> {
-    let ranges = records.iter().map(Record::range);
-    match first_outside(ranges.chain(iter::repeat(0..=0)), configuration) {
+    let ranges = records.iter().map(Record::ranges);
+    let beyond = iter::repeat([0..=0, 0..=0]);
+    match first_outside(ranges.chain(beyond), configuration) {
         Some(index) => Err(Refusal::new(60, index + 1)),
         None => Ok(()),
     }
 }
 
-/// The index of the first word that is not in its range.
+/// The index of the first pair that has a word out of its range.
 fn first_outside(
-    ranges: impl Iterator<Item = RangeInclusive<i64>>,
+    ranges: impl Iterator<Item = [RangeInclusive<i64>; 2]>,
     configuration: &Configuration,
 ) -> Option<usize> {
+    let within = |pair: &Pair, ranges: [RangeInclusive<i64>; 2]| {
+        let mut each = pair.iter().zip(ranges);
+        each.all(|(word, range)| range.contains(word))
+    };
     configuration
         .iter()
         .zip(ranges)
-        .position(|(word, range)| !range.contains(word))
+        .position(|(pair, ranges)| !within(pair, ranges))
 }
 
 /// 61: "tick set with a bit at or above the clock count, place 0", where M-101

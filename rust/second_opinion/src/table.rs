@@ -4,7 +4,7 @@ use std::collections::{HashMap, HashSet};
 use std::mem;
 
 use crate::rule::AWAIT_NUMBERS;
-use crate::{Kind, Record, Refusal, CLOCKS, WORDS};
+use crate::{Delays, Kind, Record, Refusal, CLOCKS, WORDS};
 
 /// The most bytes a table may have (10).
 const TABLE_BYTES: usize = 4_096;
@@ -12,8 +12,9 @@ const TABLE_BYTES: usize = 4_096;
 /// The most bytes a name may have (13).
 const NAME_BYTES: usize = 16;
 
-/// "The form words below are not names."
-const FORM_WORDS: [&str; 11] = [
+/// "The form words below are not names"; "`deferred` and `for` become form
+/// words" (M-105).
+const FORM_WORDS: [&str; 13] = [
     "isSubClockOf",
     "strictly",
     "precedes",
@@ -25,6 +26,8 @@ const FORM_WORDS: [&str; 11] = [
     "await",
     "sampled",
     "upto",
+    "deferred",
+    "for",
 ];
 
 /// The most parentheses that may stand open (19).
@@ -72,7 +75,7 @@ struct Reader<'t> {
 impl<'t> Reader<'t> {
     /// Reads one line, and gives the number of the condition that refuses it.
     /// The conditions of a line are asked "in number order", 19 and 20 "both
-    /// between 11 and 12" (M-101).
+    /// between 11 and 12" (M-101), 22 "after 14" (M-105).
     fn read_line(&mut self, line: &'t [u8], number: usize) -> Result<(), u64> {
         let text = printable(line).ok_or(11u64)?;
         let words = words(text);
@@ -88,6 +91,9 @@ impl<'t> Reader<'t> {
         }
         if !constraint.forms().all(Form::number_in_range) {
             return Err(14);
+        }
+        if !constraint.forms().all(Form::delays_in_range) {
+            return Err(22);
         }
         if named_twice(&names) {
             return Err(15);
@@ -139,6 +145,7 @@ impl<'t> Reader<'t> {
                 first: clock(form.first),
                 second: form.second.map_or(0, clock),
                 number: form.number,
+                delays: form.delays().unwrap_or_default(),
                 line: *line as u64,
             };
             for form in &constraint.inner {
@@ -236,6 +243,8 @@ struct Form<'t> {
     first: Part<'t>,
     second: Option<Part<'t>>,
     number: u64,
+    /// The numbers of a delay, as many as there are and each of any value.
+    list: Vec<u64>,
 }
 
 impl<'t> Form<'t> {
@@ -266,6 +275,7 @@ impl<'t> Form<'t> {
             [a, Word("strictly"), Word("sampled"), b] => Self::of_two(Kind::StrictlySampled, a, b),
             [a, Word("sampled"), b] => Self::of_two(Kind::Sampled, a, b),
             [a, Word("upto"), b] => Self::of_two(Kind::Upto, a, b),
+            [a, Word("deferred"), b, Word("for"), ref list @ ..] => Self::deferring(a, b, list),
             _ => None,
         }
     }
@@ -276,6 +286,7 @@ impl<'t> Form<'t> {
             first: a,
             second: Some(b),
             number: 0,
+            list: Vec::new(),
         })
     }
 
@@ -286,12 +297,35 @@ impl<'t> Form<'t> {
             first: a,
             second: None,
             number,
+            list: Vec::new(),
         })
+    }
+
+    /// The list behind `for` has digit runs alone, "none included" (M-105).
+    fn deferring(a: Part<'t>, b: Part<'t>, list: &[Part<'t>]) -> Option<Self> {
+        let number = |part: &Part| match part {
+            Part::Word(word) => value(word),
+            Part::Inner(_) => None,
+        };
+        let list = list.iter().map(number).collect::<Option<_>>()?;
+        let form = Self::of_two(Kind::Deferred, a, b)?;
+        Some(Form { list, ..form })
     }
 
     /// Whether the form is no "await number outside 1 to 1,000,000".
     fn number_in_range(&self) -> bool {
         self.kind != Kind::Await || AWAIT_NUMBERS.contains(&self.number)
+    }
+
+    /// Whether the form is none in which "a delay number or the list's length
+    /// (none included) is out of range" (M-105).
+    fn delays_in_range(&self) -> bool {
+        self.kind != Kind::Deferred || self.delays().is_some()
+    }
+
+    /// The list of a delay that is in range.
+    fn delays(&self) -> Option<Delays> {
+        Delays::of(&self.list)
     }
 }
 
@@ -351,7 +385,8 @@ fn is_name(word: &str) -> bool {
 }
 
 /// The value of a run of digits, unless the word is none. A value that no `u64`
-/// holds counts as the largest, which is out of an await number's range as well.
+/// holds counts as the largest, which is out of an await number's range as well,
+/// and of a delay's.
 fn value(word: &str) -> Option<u64> {
     word.chars().try_fold(0u64, |value, c| {
         let digit = c.to_digit(10)?;

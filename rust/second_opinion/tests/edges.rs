@@ -12,7 +12,7 @@ fn edge(record: Record, word: i64, ticks: u32, after: Option<i64>) {
         Some(after) => (StepAnswer::Accepted, after),
         None => (StepAnswer::Violated(1), word),
     };
-    assert_eq!(judge(&record, word, ticks), (after.is_some(), expected));
+    assert_eq!(judged(&record, word, ticks), (after.is_some(), expected));
     let given = words(&[word]);
     assert_eq!(
         stepped(&[record], 3, given, ticks),
@@ -89,7 +89,7 @@ fn await_0_and_1_000_001_are_14_and_1_and_1_000_000_are_read() {
     assert_eq!(table("c clockDef await 1 a").records[0].number, 1);
     let million = table("c clockDef await 1000000 a").records[0];
     assert_eq!(million.number, 1_000_000);
-    assert_eq!(start_word(&million), MILLION);
+    assert_eq!(start_word(&million), [MILLION, 0]);
     assert_eq!(table_refusal("c clockDef await 1000001 a"), (14, 1));
 }
 

@@ -1,4 +1,5 @@
-//! The paper's example, and what the program prints.
+//! The paper's example, and what the program prints, with two numbers a
+//! constraint as M-105 has it.
 
 mod common;
 
@@ -17,10 +18,13 @@ fn the_papers_example() {
         verdict: Verdict::Violated { line: 1, time: 9 },
         steps: 4,
         constraints: 2,
-        configuration: [0; WORDS],
+        configuration: [[0, 0]; WORDS],
     };
     assert_eq!(report, expected);
-    assert_eq!(report.to_string(), "violated 1 9\nsteps 4\nconfig 0 0\n");
+    assert_eq!(
+        report.to_string(),
+        "violated 1 9\nsteps 4\nconfig 0 0 0 0\n"
+    );
 }
 
 #[test]
@@ -49,11 +53,11 @@ fn reading_37_three_lines_for_each_verdict() {
         b"c clockDef a lub b",
         format!("{HEADER}#007 1\" #08 1\" #9 1\"").as_bytes(),
     );
-    assert_eq!(accepted.to_string(), "accepted\nsteps 3\nconfig -3\n");
+    assert_eq!(accepted.to_string(), "accepted\nsteps 3\nconfig -3 0\n");
     let violated = run_ignoring(b"\na # b", format!("{} #0012 1! 1\"", HEADER).as_bytes());
-    assert_eq!(violated.to_string(), "violated 2 12\nsteps 0\nconfig 0\n");
+    assert_eq!(violated.to_string(), "violated 2 12\nsteps 0\nconfig 0 0\n");
     let refused = run_ignoring(b"c clockDef await 007 a", b"");
-    assert_eq!(refused.to_string(), "refused 36 0\nsteps 0\nconfig 7\n");
+    assert_eq!(refused.to_string(), "refused 36 0\nsteps 0\nconfig 7 0\n");
 }
 
 #[test]

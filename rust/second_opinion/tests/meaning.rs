@@ -9,7 +9,7 @@ use second_opinion::*;
 /// the column "Holds when", with the word after.
 fn accepted(record: &Record, word: i64) -> Vec<(u32, i64)> {
     (0..8)
-        .filter_map(|ticks| match judge(record, word, ticks) {
+        .filter_map(|ticks| match judged(record, word, ticks) {
             (true, after) => Some((ticks, after)),
             (false, _) => None,
         })
@@ -145,7 +145,9 @@ fn reading_12_upto_on_a_and_b_ends_without_c() {
 #[test]
 fn an_empty_record_names_no_clock_and_always_holds() {
     for ticks in 0..8 {
-        assert_eq!(judge(&record(Kind::Empty), 0, ticks), (true, 0));
+        assert_eq!(judged(&record(Kind::Empty), 0, ticks), (true, 0));
+        let handed_in = judge(&record(Kind::Empty), [5, -5], ticks);
+        assert_eq!(handed_in, (true, [0, 0]));
     }
 }
 
@@ -163,7 +165,7 @@ fn reading_11_the_empty_tick_set_holds_in_every_form_and_moves_nothing() {
     for kind in KINDS {
         for word in [-7, -1, 0, 1, 2, 7] {
             let expected = if kind == Kind::Empty { 0 } else { word };
-            assert_eq!(judge(&record(kind), word, 0), (true, expected), "{kind:?}");
+            assert_eq!(judged(&record(kind), word, 0), (true, expected), "{kind:?}");
         }
     }
 }
@@ -221,7 +223,10 @@ fn non_strict_sampling_waits_for_the_base_clock_after_a_trigger() {
     let mut configuration = words(&[2]);
     for (ticks, after) in [(B, 2), (A, 1), (A, 1), (B | C, 0), (A | B, 0), (B, 0)] {
         let answer = step(&records, 3, 3, &mut configuration, ticks);
-        assert_eq!((answer, configuration[0]), (StepAnswer::Accepted, after));
+        assert_eq!(
+            (answer, configuration),
+            (StepAnswer::Accepted, words(&[after]))
+        );
     }
 }
 
@@ -231,6 +236,9 @@ fn strict_sampling_fires_once() {
     let mut configuration = words(&[2]);
     for (ticks, after) in [(A | B, 1), (A | B | C, 0), (A, 0), (B, 0)] {
         let answer = step(&records, 3, 3, &mut configuration, ticks);
-        assert_eq!((answer, configuration[0]), (StepAnswer::Accepted, after));
+        assert_eq!(
+            (answer, configuration),
+            (StepAnswer::Accepted, words(&[after]))
+        );
     }
 }

@@ -6,7 +6,7 @@ mod common;
 use common::*;
 use second_opinion::*;
 
-const RIGHT_SIDES: [&str; 7] = [
+const RIGHT_SIDES: [&str; 8] = [
     "clockUnion",
     "clockInter",
     "lub",
@@ -14,7 +14,11 @@ const RIGHT_SIDES: [&str; 7] = [
     "strictly sampled",
     "sampled",
     "upto",
+    "deferred",
 ];
+
+/// What stands behind the operands of a delay.
+const LISTS: [&str; 4] = [" for 1", " for 2 1", " for 1 1 02", " for 3 1 4 1 5 9 2 6"];
 
 const RELATIONS: [&str; 5] = ["=", "#", "isSubClockOf", "strictly precedes", "precedes"];
 
@@ -66,7 +70,12 @@ impl Line<'_> {
             );
         }
         let sign = self.numbers.pick(&RIGHT_SIDES);
-        self.two(texts, spare, depth, sign)
+        let (nested, flat) = self.two(texts, spare, depth, sign);
+        let list = match sign {
+            "deferred" => self.numbers.pick(&LISTS),
+            _ => "",
+        };
+        (format!("{nested}{list}"), format!("{flat}{list}"))
     }
 
     fn two(&mut self, texts: &mut Texts, spare: usize, depth: u64, sign: &str) -> (String, String) {
@@ -139,6 +148,7 @@ fn a_nested_table_is_its_unfolded_one() {
             let unfolded = |clock: u64| flat.names[clock as usize].clone();
             assert_eq!(one.kind, other.kind, "{context}");
             assert_eq!(one.number, other.number, "{context}");
+            assert_eq!(one.delays, other.delays, "{context}");
             assert_eq!(name(one.first), unfolded(other.first), "{context}");
             if one.kind != Kind::Await {
                 assert_eq!(name(one.second), unfolded(other.second), "{context}");

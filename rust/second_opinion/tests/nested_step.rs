@@ -28,7 +28,7 @@ fn accepted(after: &[i64]) -> (StepAnswer, Configuration) {
 /// The 59 of a list, which the step, the same-place question, the start words
 /// and the order must give alike.
 fn list_refusal(records: &[Record], named: u64, clocks: u64) -> Option<u64> {
-    let mut zero = [0; WORDS];
+    let mut zero = [[0, 0]; WORDS];
     let start = start_words(records, named, clocks);
     let answer = step(records, named, clocks, &mut zero, 0);
     let place = same_place(records, named, clocks, &zero, &zero);
@@ -315,7 +315,11 @@ fn reading_27_an_implicit_clock_used_without_a_definition_above_is_59() {
     // As an operand of every form, on either side.
     for kind in KINDS.into_iter().skip(1) {
         let used = definition(kind, 0, 3, 1, 1);
-        let used = Record { number: 5, ..used };
+        let used = Record {
+            number: 5,
+            delays: delays(&[2]),
+            ..used
+        };
         assert_eq!(list_refusal(&[used], 3, 4), Some(1), "{kind:?}");
         let second = Record {
             first: 2,
@@ -469,7 +473,8 @@ fn reading_32_same_place_is_equality_of_words_over_all_clocks() {
         assert_eq!(ask(&here, &there), SamePlace::Different, "{index}");
         assert_eq!(ask(&there, &here), SamePlace::Different, "{index}");
         let record = &table.records[index];
-        let found = told_apart(record, table.named, table.clocks, here[index], word, 8);
+        let (one, other) = ([here[index], 0], [word, 0]);
+        let found = told_apart(record, table.named, table.clocks, one, other, 8);
         assert!(found.is_some(), "{index}");
     }
     // 60 is asked of the implicit records' words too.
@@ -483,15 +488,18 @@ fn reading_32_continuations_tick_implicit_clocks_by_themselves() {
     // 0 is named; 1 and 2 are not.
     let precedes = relation(Kind::Precedes, 1, 2, 1);
     let implicit_b = vec![4; 3];
-    assert_eq!(told_apart(&precedes, 1, 3, 2, 9, 3), Some(implicit_b));
+    let (two, nine) = ([2, 0], [9, 0]);
+    let found = told_apart(&precedes, 1, 3, two, nine, 3);
+    assert_eq!(found, Some(implicit_b));
     // The named count changes nothing, the clock count does.
     for named in [0, 1, 2, 3, 9] {
-        let found = told_apart(&precedes, named, 3, 2, 9, 3);
+        let found = told_apart(&precedes, named, 3, two, nine, 3);
         assert_eq!(found, Some(vec![4; 3]), "{named}");
-        assert_eq!(told_apart(&precedes, named, 2, 2, 9, 3), None, "{named}");
+        let found = told_apart(&precedes, named, 2, two, nine, 3);
+        assert_eq!(found, None, "{named}");
     }
     // lub at 1 and at 2 with all three clocks implicit: {b, c}, then b without
     // c, which fails from 2 alone.
-    let found = told_apart(&lub(5, 4, 3), 0, 6, 1, 2, 2);
+    let found = told_apart(&lub(5, 4, 3), 0, 6, [1, 0], two, 2);
     assert_eq!(found, Some(vec![8 | 32, 8]));
 }

@@ -566,17 +566,23 @@ fn reading_20_the_configuration_holds_the_implicit_records_words() {
         $var event 1 3 d $end $enddefinitions $end";
     let printed =
         |body: &str| run_ignoring(TAUGHT.as_bytes(), format!("{header}{body}").as_bytes());
-    assert_eq!(printed("").to_string(), "accepted\nsteps 0\nconfig 0 1 0\n");
+    assert_eq!(
+        printed("").to_string(),
+        "accepted\nsteps 0\nconfig 0 0 1 0 0 0\n"
+    );
     // a ticks the union and so the upto clock twice; then c ends it.
     assert_eq!(
         printed(" #1 10 #2 11 #3 12 10").to_string(),
-        "accepted\nsteps 3\nconfig 0 0 2\n"
+        "accepted\nsteps 3\nconfig 0 0 0 0 2 0\n"
     );
     let report = printed("");
     assert_eq!(report.constraints, 3);
     assert_eq!(report.configuration, words(&[0, 1, 0]));
     let start = run_ignoring(b"x = (await 5 (a sampled b))", b"");
-    assert_eq!(start.to_string(), "refused 36 0\nsteps 0\nconfig 2 5 0\n");
+    assert_eq!(
+        start.to_string(),
+        "refused 36 0\nsteps 0\nconfig 2 0 5 0 0 0\n"
+    );
     let refused = run_ignoring(b"x = (await 5 (a sampled b))\n)", b"");
     assert_eq!(refused.to_string(), "refused 20 2\nsteps 0\nconfig\n");
 }

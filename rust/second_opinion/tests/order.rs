@@ -74,17 +74,20 @@ fn every_form_waits_for_its_operands() {
         Kind::StrictlySampled,
         Kind::Sampled,
         Kind::Upto,
+        Kind::Deferred,
     ];
     for kind in forms {
-        let left = [definition(kind, 2, 3, 0, 1), lub(3, 0, 1)];
+        let defining = |defined, first, second| Record {
+            defined,
+            first,
+            second,
+            ..record(kind)
+        };
+        let left = [defining(2, 3, 0), lub(3, 0, 1)];
         assert_eq!(order(&left), Ok(vec![2, 1]), "{kind:?}");
-        let right = [definition(kind, 2, 0, 3, 1), lub(3, 0, 1)];
+        let right = [defining(2, 0, 3), lub(3, 0, 1)];
         assert_eq!(order(&right), Ok(vec![2, 1]), "{kind:?}");
-        let both = [
-            definition(kind, 2, 3, 4, 1),
-            lub(3, 0, 1),
-            definition(kind, 4, 0, 1, 1),
-        ];
+        let both = [defining(2, 3, 4), lub(3, 0, 1), defining(4, 0, 1)];
         assert_eq!(order(&both), Ok(vec![2, 3, 1]), "{kind:?}");
     }
     let waits = [await_2(2, 3), lub(3, 0, 1)];

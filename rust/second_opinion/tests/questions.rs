@@ -25,7 +25,7 @@ fn place_of(
 /// The 59 of a list, which both questions, the start words and the order must
 /// give.
 fn list_refusal(records: &[Record], clocks: u64) -> Option<u64> {
-    let start = [0; WORDS];
+    let start = [[0, 0]; WORDS];
     let stepped = stepped(records, clocks, start, 0).0;
     let place = place_of(records, clocks, start, start);
     let refused = start_words(records, clocks, clocks).err();
@@ -60,9 +60,9 @@ fn single_steps_begin_with_a_start_word_for_each_record() {
             ..record
         })
         .collect();
-    let starts = [0, 0, 0, 0, 0, 0, 0, 0, 0, 0, 7, 2, 2, 1];
+    let starts = [0, 0, 0, 0, 0, 0, 0, 0, 0, 0, 7, 2, 2, 1, 0];
     assert_eq!(start_words(&records, 32, 32), Ok(words(&starts)));
-    assert_eq!(start_words(&[], 0, 0), Ok([0; WORDS]));
+    assert_eq!(start_words(&[], 0, 0), Ok([[0, 0]; WORDS]));
 }
 
 #[test]
@@ -170,6 +170,7 @@ fn reading_15_a_relation_defines_nothing_and_unused_fields_are_free() {
         first: 0,
         second: u64::MAX,
         number: 0,
+        delays: Delays::default(),
         line: 0,
     };
     assert_eq!(list_refusal(&[lub, empty, empty], 3), None);
@@ -215,6 +216,7 @@ fn the_ranges_of_the_words() {
         (Kind::StrictlySampled, 0, 2),
         (Kind::Sampled, 0, 2),
         (Kind::Upto, 0, 1),
+        (Kind::Deferred, 0, 4_294_967_295),
     ] {
         let ask = |word| word_refusal(&[record(kind)], words(&[word]));
         assert_eq!((ask(low), ask(high)), (None, None), "{kind:?}");
@@ -238,7 +240,7 @@ fn reading_17_empty_records_and_words_beyond_the_records_must_be_0() {
     assert_eq!(word_refusal(&records, words(&[5, 1])), Some(2));
     assert_eq!(word_refusal(&records, words(&[5, 0, -1])), Some(3));
     let mut last = words(&[5]);
-    last[63] = 1;
+    last[63] = [1, 0];
     assert_eq!(word_refusal(&records, last), Some(64));
     assert_eq!(word_refusal(&[], words(&[1])), Some(1));
     // The lowest place is given.

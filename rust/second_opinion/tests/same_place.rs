@@ -6,24 +6,26 @@ mod common;
 use common::*;
 use second_opinion::*;
 
-/// Whether a record, judged by itself, accepts a continuation from a word.
-fn accepts(record: &Record, mut word: i64, continuation: &[u32]) -> bool {
-    continuation.iter().all(|&ticks| {
-        let (holds, after) = judge(record, word, ticks);
-        word = after;
-        holds
-    })
-}
-
-/// The words within ±6 that are in the form's range.
-fn small_words(kind: Kind) -> Vec<i64> {
-    match kind {
-        Kind::StrictlyPrecedes | Kind::Precedes | Kind::Await => (0..=6).collect(),
-        Kind::Lub | Kind::Glb => (-6..=6).collect(),
-        Kind::StrictlySampled | Kind::Sampled => (0..=2).collect(),
-        Kind::Upto => (0..=1).collect(),
-        _ => vec![0],
-    }
+/// The pairs in the form's ranges whose words are within ±6, of a delay within
+/// ±7.
+fn small_pairs(kind: Kind) -> Vec<Pair> {
+    let words = match kind {
+        Kind::StrictlyPrecedes | Kind::Precedes | Kind::Await => 0..=6,
+        Kind::Lub | Kind::Glb => -6..=6,
+        Kind::StrictlySampled | Kind::Sampled => 0..=2,
+        Kind::Upto => 0..=1,
+        Kind::Deferred => 0..=7,
+        _ => 0..=0,
+    };
+    // The list of `record` has two numbers.
+    let seconds: &[i64] = if kind == Kind::Deferred {
+        &[0, 1, 2]
+    } else {
+        &[0]
+    };
+    words
+        .flat_map(|word| seconds.iter().map(move |&second| [word, second]))
+        .collect()
 }
 
 /// Every form, with its clocks in the usual places and elsewhere.
@@ -41,50 +43,51 @@ fn records() -> Vec<(Record, u64)> {
     usual.into_iter().chain(moved).collect()
 }
 
-/// Every record with two small words of its own.
-fn pairs() -> Vec<(Record, u64, i64, i64)> {
-    let mut pairs = Vec::new();
+/// Every record with two small pairs of its own.
+fn cases() -> Vec<(Record, u64, Pair, Pair)> {
+    let mut cases = Vec::new();
     for (record, clocks) in records() {
-        let words = small_words(record.kind);
-        for &one in &words {
-            pairs.extend(words.iter().map(|&other| (record, clocks, one, other)));
+        let pairs = small_pairs(record.kind);
+        for &one in &pairs {
+            cases.extend(pairs.iter().map(|&other| (record, clocks, one, other)));
         }
     }
-    pairs
+    cases
 }
 
-fn rule(record: Record, clocks: u64, one: i64, other: i64) -> SamePlace {
-    same_place(&[record], clocks, clocks, &words(&[one]), &words(&[other]))
+fn rule(record: Record, clocks: u64, one: Pair, other: Pair) -> SamePlace {
+    same_place(&[record], clocks, clocks, &pairs(&[one]), &pairs(&[other]))
 }
 
 #[test]
-fn the_rule_says_what_the_search_finds_for_all_forms_and_small_words() {
+fn the_rule_says_what_the_search_finds_for_all_forms_and_small_pairs() {
     let mut apart = 0;
-    for (record, clocks, one, other) in pairs() {
+    for (record, clocks, one, other) in cases() {
         let found = told_apart(&record, clocks, clocks, one, other, 8);
         let expected = match &found {
             Some(_) => SamePlace::Different,
             None => SamePlace::Same,
         };
-        let context = format!("{record:?} {one} {other} {found:?}");
+        let context = format!("{record:?} {one:?} {other:?} {found:?}");
         assert_eq!(rule(record, clocks, one, other), expected, "{context}");
         if let Some(continuation) = found {
             apart += 1;
-            let answers = [one, other].map(|word| accepts(&record, word, &continuation));
+            let answers = [one, other].map(|pair| accepts(&record, pair, &continuation));
             assert_ne!(answers[0], answers[1], "{context}");
         }
     }
     // 42 for each precedence and for await, 156 for lub and for glb, 6 for each
-    // sampling and 2 for upto; all of it twice.
-    assert_eq!(apart, 2 * (3 * 42 + 2 * 156 + 2 * 6 + 2));
+    // sampling, 2 for upto and, with its 24 pairs, 552 for the delay; all of it
+    // twice.
+    assert_eq!(apart, 2 * (3 * 42 + 2 * 156 + 2 * 6 + 2 + 552));
 }
 
 #[test]
 fn the_same_place_is_not_told_apart_by_longer_continuations_either() {
     for (record, clocks) in records() {
-        for word in small_words(record.kind) {
-            assert_eq!(rule(record, clocks, word, word), SamePlace::Same);
-            assert_eq!(told_apart(&record, clocks, clocks, word, word, 200), None);
+        for pair in small_pairs(record.kind) {
+            assert_eq!(rule(record, clocks, pair, pair), SamePlace::Same);
+            assert_eq!(told_apart(&record, clocks, clocks, pair, pair, 200), None);
         }
     }
 }
@@ -107,14 +110,14 @@ fn continuations(depth: usize) -> Vec<Vec<u32>> {
 fn the_search_misses_nothing_that_all_continuations_up_to_4_sets_show() {
     let all = continuations(4);
     assert_eq!(all.len(), 1 + 8 + 64 + 512 + 4096);
-    let usual = pairs().into_iter().filter(|&(_, clocks, ..)| clocks == 3);
+    let usual = cases().into_iter().filter(|&(_, clocks, ..)| clocks == 3);
     for (record, clocks, one, other) in usual {
         let shortest = all
             .iter()
             .find(|list| accepts(&record, one, list) != accepts(&record, other, list));
         let found = told_apart(&record, clocks, clocks, one, other, 4);
         let lengths = (shortest.map(Vec::len), found.as_ref().map(Vec::len));
-        assert_eq!(lengths.0, lengths.1, "{record:?} {one} {other}");
+        assert_eq!(lengths.0, lengths.1, "{record:?} {one:?} {other:?}");
     }
 }
 
@@ -127,11 +130,11 @@ fn a_record_looks_at_its_own_clocks_alone() {
             second: 3,
             ..record(kind)
         };
-        for word in small_words(kind) {
+        for pair in small_pairs(kind) {
             for ticks in 0..32u32 {
                 let own = ticks & 0b11010;
-                let answers = (judge(&record, word, ticks), judge(&record, word, own));
-                assert_eq!(answers.0, answers.1, "{kind:?} {word} {ticks}");
+                let answers = (judge(&record, pair, ticks), judge(&record, pair, own));
+                assert_eq!(answers.0, answers.1, "{kind:?} {pair:?} {ticks}");
             }
         }
     }
@@ -140,16 +143,17 @@ fn a_record_looks_at_its_own_clocks_alone() {
 #[test]
 fn the_papers_precedes_at_0_and_at_1() {
     let record = record(Kind::Precedes);
-    assert!(accepts(&record, 0, &[A, B]));
-    assert!(!accepts(&record, 0, &[B, A]));
-    assert!(accepts(&record, 1, &[A, B]));
-    assert!(accepts(&record, 1, &[B, A]));
-    assert_eq!(told_apart(&record, 3, 3, 0, 1, 1), Some(vec![B]));
+    assert!(accepts(&record, [0, 0], &[A, B]));
+    assert!(!accepts(&record, [0, 0], &[B, A]));
+    assert!(accepts(&record, [1, 0], &[A, B]));
+    assert!(accepts(&record, [1, 0], &[B, A]));
+    let found = told_apart(&record, 3, 3, [0, 0], [1, 0], 1);
+    assert_eq!(found, Some(vec![B]));
 }
 
 #[test]
 fn the_empty_continuation_tells_nothing_apart() {
-    for (record, clocks, one, other) in pairs() {
+    for (record, clocks, one, other) in cases() {
         assert_eq!(told_apart(&record, clocks, clocks, one, other, 0), None);
     }
 }
@@ -157,7 +161,7 @@ fn the_empty_continuation_tells_nothing_apart() {
 #[test]
 fn the_lengths_that_are_needed() {
     let length = |kind, one, other| {
-        let found = told_apart(&record(kind), 3, 3, one, other, 50);
+        let found = told_apart(&record(kind), 3, 3, [one, 0], [other, 0], 50);
         found.map(|continuation| continuation.len())
     };
     assert_eq!(length(Kind::StrictlyPrecedes, 4, 9), Some(5));
@@ -172,17 +176,32 @@ fn the_lengths_that_are_needed() {
     assert_eq!(length(Kind::StrictlySampled, 0, 2), Some(2));
     assert_eq!(length(Kind::Sampled, 0, 2), Some(1));
     assert_eq!(length(Kind::Upto, 0, 1), Some(1));
+    assert_eq!(length(Kind::Deferred, 0, 1), Some(1));
+    assert_eq!(length(Kind::Deferred, 5, 1), Some(3));
+    // The list is 2 3. {a} plans the second next tick of b where no number is
+    // used, the third where one is, and none where both are.
+    let length = |one, other| {
+        let found = told_apart(&record(Kind::Deferred), 3, 3, one, other, 50);
+        found.map(|continuation| continuation.len())
+    };
+    assert_eq!(length([0, 0], [0, 1]), Some(3));
+    assert_eq!(length([0, 0], [0, 2]), Some(3));
+    assert_eq!(length([0, 1], [0, 2]), Some(4));
+    // Both next ticks of b are planned. {a} at once plans the second of them
+    // again; {a, b, c} plans the third, so {b, c} and {b, c} follow, or {b}.
+    assert_eq!(length([3, 0], [3, 2]), Some(3));
 }
 
 #[test]
 fn a_depth_that_does_not_suffice_finds_nothing() {
     let record = record(Kind::Precedes);
-    assert_eq!(told_apart(&record, 3, 3, 4, 9, 4), None);
-    assert_eq!(told_apart(&record, 3, 3, 4, 9, 5), Some(vec![B; 5]));
+    let search = |depth| told_apart(&record, 3, 3, [4, 0], [9, 0], depth);
+    assert_eq!(search(4), None);
+    assert_eq!(search(5), Some(vec![B; 5]));
 }
 
-/// What the comment on `same_place` says tells v < w apart, and from which of
-/// the two it is not accepted (`true`: from v).
+/// What the comment on `same_place` says tells v < w apart, the words of any form
+/// but the delay, and from which of the two it is not accepted (`true`: from v).
 fn as_the_rule_says(kind: Kind, v: i64, w: i64) -> (Vec<u32>, bool) {
     let times = |count: i64, set: u32| vec![set; count as usize];
     match kind {
@@ -206,16 +225,17 @@ fn as_the_rule_says(kind: Kind, v: i64, w: i64) -> (Vec<u32>, bool) {
 
 fn try_what_the_rule_says(record: Record, v: i64, w: i64) {
     let (continuation, fails_from_v) = as_the_rule_says(record.kind, v, w);
-    let answers = [v, w].map(|word| accepts(&record, word, &continuation));
+    let answers = [v, w].map(|word| accepts(&record, [word, 0], &continuation));
     assert_eq!(answers, [!fails_from_v, fails_from_v], "{record:?} {v} {w}");
-    assert_eq!(rule(record, 3, v, w), SamePlace::Different);
-    assert_eq!(rule(record, 3, w, v), SamePlace::Different);
+    assert_eq!(rule(record, 3, [v, 0], [w, 0]), SamePlace::Different);
+    assert_eq!(rule(record, 3, [w, 0], [v, 0]), SamePlace::Different);
 }
 
 #[test]
 fn the_reasons_of_the_rule_hold_for_small_words() {
-    let usual = pairs().into_iter().filter(|&(_, clocks, ..)| clocks == 3);
-    for (record, _, v, w) in usual.filter(|&(_, _, v, w)| v < w) {
+    let usual = cases().into_iter().filter(|&(_, clocks, ..)| clocks == 3);
+    let others = usual.filter(|(record, ..)| record.kind != Kind::Deferred);
+    for (record, _, [v, _], [w, _]) in others.filter(|&(_, _, v, w)| v < w) {
         try_what_the_rule_says(record, v, w);
     }
 }
@@ -243,23 +263,146 @@ fn one_record_that_tells_apart_is_enough() {
         defined: 2 + kind as u64,
         ..record(kind)
     });
-    let start: Vec<i64> = records.iter().map(start_word).collect();
-    let one = words(&start);
+    let start: Vec<Pair> = records.iter().map(start_word).collect();
+    let one = pairs(&start);
     assert_eq!(same_place(&records, 20, 20, &one, &one), SamePlace::Same);
     for (index, kind) in KINDS.into_iter().enumerate() {
-        let moved = small_words(kind)
-            .into_iter()
-            .find(|&word| word != one[index]);
-        let Some(moved) = moved else { continue };
-        let mut other = one;
-        other[index] = moved;
-        assert_eq!(
-            same_place(&records, 20, 20, &one, &other),
-            SamePlace::Different
-        );
-        assert_eq!(
-            same_place(&records, 20, 20, &other, &one),
-            SamePlace::Different
-        );
+        for moved in small_pairs(kind) {
+            let mut other = one;
+            other[index] = moved;
+            let expected = if moved == one[index] {
+                SamePlace::Same
+            } else {
+                SamePlace::Different
+            };
+            assert_eq!(same_place(&records, 20, 20, &one, &other), expected);
+            assert_eq!(same_place(&records, 20, 20, &other, &one), expected);
+        }
+    }
+}
+
+/// D(x): 32 times {b} or {b, c}, as the bits of x say from the lowest.
+fn drained(x: i64) -> Vec<u32> {
+    let set = |bit: u32| if x >> bit & 1 == 1 { B | C } else { B };
+    (0..32).map(set).collect()
+}
+
+/// What the comment on `same_place` says tells two pairs of a delay apart, and
+/// the pair from which it is accepted.
+fn as_the_rule_says_of_a_delay(list: &[u8], one: Pair, other: Pair) -> (Vec<u32>, Pair) {
+    let low = (one[0] ^ other[0]).trailing_zeros() as usize;
+    if low < 32 {
+        let mut continuation = drained(one[0]);
+        continuation.truncate(low);
+        continuation.push(B | C);
+        let has = one[0] >> low & 1 == 1;
+        return (continuation, if has { one } else { other });
+    }
+    let (first, last) = if one[1] < other[1] {
+        (one, other)
+    } else {
+        (other, one)
+    };
+    let (u, left) = (first[1] as usize, list.len() - last[1] as usize);
+    let q = list[u..u + left].iter().fold(0, |q, n| q | 1 << (n - 1));
+    let n = list[u + left] as usize;
+    let parts = [
+        drained(one[0]),
+        vec![A; left],
+        drained(q),
+        vec![A],
+        vec![B; n - 1],
+        vec![B | C],
+    ];
+    (parts.concat(), first)
+}
+
+fn try_what_the_rule_says_of_a_delay(list: &[u8], one: Pair, other: Pair) {
+    let record = deferring(list);
+    let (continuation, accepted_from) = as_the_rule_says_of_a_delay(list, one, other);
+    let context = format!("{list:?} {one:?} {other:?}");
+    for pair in [one, other] {
+        let accepted = accepts(&record, pair, &continuation);
+        assert_eq!(accepted, pair == accepted_from, "{context} {pair:?}");
+    }
+    assert_eq!(rule(record, 3, one, other), SamePlace::Different);
+    assert_eq!(rule(record, 3, other, one), SamePlace::Different);
+    assert_eq!(rule(record, 3, one, one), SamePlace::Same);
+}
+
+#[test]
+fn reading_59_the_reasons_of_the_rule_hold_for_small_pairs_of_delays() {
+    let small = small_pairs(Kind::Deferred);
+    for list in [[2, 3], [3, 2], [2, 2], [1, 1], [32, 1], [1, 32], [32, 32]] {
+        for &one in &small {
+            for &other in small.iter().filter(|&&other| other != one) {
+                try_what_the_rule_says_of_a_delay(&list, one, other);
+            }
+        }
+    }
+}
+
+/// A pending word, with few bits, with many or with any.
+fn random_pending(numbers: &mut Numbers) -> i64 {
+    let mut bits = || (numbers.next() << 16 ^ numbers.next()) & 0xFFFF_FFFF;
+    let pending = match bits() % 5 {
+        0 => 0,
+        1 => 1 << (bits() % 32),
+        2 => bits() & bits() & bits(),
+        3 => bits() | bits() | bits(),
+        _ => bits(),
+    };
+    pending as i64
+}
+
+#[test]
+fn reading_59_the_reasons_of_the_rule_hold_for_random_pairs_of_delays() {
+    let mut numbers = Numbers(59);
+    let (mut by_pending, mut by_used) = (0, 0);
+    for _ in 0..10_000 {
+        // A narrow choice makes lists whose parts plan the same.
+        let most = numbers.pick(&[1, 2, 3, 32]);
+        let length = 1 + numbers.below(8) as usize;
+        let list: Vec<u8> = (0..length).map(|_| 1 + numbers.below(most) as u8).collect();
+        let mut used = || numbers.below(length as u64 + 1) as i64;
+        let used = (used(), used());
+        let one = [random_pending(&mut numbers), used.0];
+        let pending = match numbers.below(4) {
+            0 => random_pending(&mut numbers),
+            1 => one[0] ^ 1 << numbers.below(32),
+            _ => one[0],
+        };
+        let other = [pending, used.1];
+        if one == other {
+            assert_eq!(rule(deferring(&list), 3, one, other), SamePlace::Same);
+            continue;
+        }
+        try_what_the_rule_says_of_a_delay(&list, one, other);
+        if one[0] == pending {
+            by_used += 1;
+        } else {
+            by_pending += 1;
+        }
+    }
+    assert!(
+        by_pending > 3000 && by_used > 3000,
+        "{by_pending} {by_used}"
+    );
+}
+
+#[test]
+fn reading_59_the_search_tells_all_small_pairs_of_small_lists_apart() {
+    for list in [[1, 1], [2, 2], [1, 2], [2, 1], [3, 3]] {
+        let record = deferring(&list);
+        for one in small_pairs(Kind::Deferred) {
+            for other in small_pairs(Kind::Deferred) {
+                let found = told_apart(&record, 3, 3, one, other, 12);
+                assert_eq!(found.is_some(), one != other, "{list:?} {one:?} {other:?}");
+                if let Some(continuation) = found {
+                    let answers = [one, other].map(|pair| accepts(&record, pair, &continuation));
+                    assert_ne!(answers[0], answers[1]);
+                }
+            }
+        }
     }
 }

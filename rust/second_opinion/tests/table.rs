@@ -21,7 +21,7 @@ fn every_relation_is_read_with_a_before_b() {
         let read = read_record(line);
         assert_eq!((read.kind, read.first, read.second), (kind, 0, 1), "{line}");
         assert_eq!(table(line).names, ["x", "y"]);
-        assert_eq!(start_word(&read), 0);
+        assert_eq!(start_word(&read), [0, 0]);
     }
 }
 
@@ -40,12 +40,12 @@ fn reading_6_every_definition_is_read_with_c_before_a_before_b() {
         assert_eq!(read.kind, kind, "{line}");
         assert_eq!((read.defined, read.first, read.second), (0, 1, 2), "{line}");
         assert_eq!(table(line).names, ["x", "y", "z"]);
-        assert_eq!(start_word(&read), start);
+        assert_eq!(start_word(&read), [start, 0]);
     }
     let read = read_record("x clockDef await 12 y");
     assert_eq!(read.kind, Kind::Await);
     assert_eq!((read.defined, read.first, read.number), (0, 1, 12));
-    assert_eq!(start_word(&read), 12);
+    assert_eq!(start_word(&read), [12, 0]);
 }
 
 #[test]
@@ -249,7 +249,7 @@ fn reading_9_a_refused_table_leaves_zero_words_and_0_steps() {
         verdict: Verdict::Refused(refusal(15, 2)),
         steps: 0,
         constraints: 0,
-        configuration: [0; WORDS],
+        configuration: [[0, 0]; WORDS],
     };
     assert_eq!(report, expected);
 }

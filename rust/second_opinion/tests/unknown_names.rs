@@ -63,7 +63,10 @@ fn reading_44_38_leaves_the_start_words_and_0_steps() {
         configuration: words(&[2, 0]),
     };
     assert_eq!(report, expected);
-    assert_eq!(report.to_string(), "refused 38 22\nsteps 0\nconfig 2 0\n");
+    assert_eq!(
+        report.to_string(),
+        "refused 38 22\nsteps 0\nconfig 2 0 0 0\n"
+    );
 }
 
 #[test]
@@ -73,7 +76,7 @@ fn reading_40_the_choice_to_ignore_judges_the_same_recording() {
     // The second a makes c due and the word of await 0; two a and one b leave
     // the word of precedes 1.
     let report = run_ignoring(TABLE.as_bytes(), recording.as_bytes());
-    assert_eq!(report.to_string(), "accepted\nsteps 3\nconfig 0 1\n");
+    assert_eq!(report.to_string(), "accepted\nsteps 3\nconfig 0 0 1 0\n");
     // c is not due with the first a.
     let violating = format!(" {UNKNOWN}{HEADER}#0 #4 1! 1% 1?");
     assert_eq!(refusing(TABLE, &violating), refused_run(38, 1, 0));
@@ -273,7 +276,7 @@ fn m_103_a_refused_table_comes_first() {
     assert_eq!(either("a # b\nx lub", &recording), refused_run(12, 2, 0));
     let report = run_refusing("c clockDef await 2 a\na # a", recording);
     assert_eq!(report.to_string(), "refused 15 2\nsteps 0\nconfig\n");
-    assert_eq!(report.configuration, [0; WORDS]);
+    assert_eq!(report.configuration, [[0, 0]; WORDS]);
 }
 
 #[test]

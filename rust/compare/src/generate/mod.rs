@@ -22,7 +22,7 @@ use tables::Size;
 pub enum Group {
     /// Reading a table without faults.
     Table,
-    /// A table at the limits 10 to 20, read or run.
+    /// A table at the limits 10 to 20 and 22, read or run.
     TableLimits,
     /// A table that is damaged, read or run.
     DamagedTable,

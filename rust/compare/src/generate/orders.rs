@@ -1,7 +1,8 @@
 //! Records for the working order: definitions that rest on each other in chains and circles, with
 //! relations and empty records between.
 
-use super::records::{free, number, record, spoil_records, Material};
+use super::records::{delays, free, number, record, spoil_records, Material};
+use super::tables::kind_of;
 use crate::case::Case;
 use crate::monitors::{defines, KINDS};
 use crate::random::Random;
@@ -152,7 +153,7 @@ fn definition_of(random: &mut Random, clocks: Clocks, defined: u64, operands: &[
         _ => {
             let of_two = |kind: &Kind| defines(*kind) && *kind != Kind::Await;
             let kinds: Vec<Kind> = KINDS.into_iter().filter(of_two).collect();
-            random.pick(&kinds)
+            kind_of(random, &kinds)
         }
     };
     Record {
@@ -165,6 +166,7 @@ fn definition_of(random: &mut Random, clocks: Clocks, defined: u64, operands: &[
             _ => free(random),
         },
         number: number(random, kind),
+        delays: delays(random, kind),
         line: free(random),
     }
 }

@@ -155,7 +155,9 @@ fn unknown_name(random: &mut Random, table: &Table, recording: &mut Recording) {
 /// exchanged; or another name.
 fn misspelt(random: &mut Random, table: &Table) -> Word {
     if table.names.is_empty() || random.once_in(4) {
-        return word(random.pick_word("other x lub await $end #0 a_name_of_over_16_bytes"));
+        return word(
+            random.pick_word("other x lub await for deferred $end #0 a_name_of_over_16_bytes"),
+        );
     }
     let mut name = random.pick(&table.names).into_bytes();
     let place = random.below(name.len());

@@ -1,9 +1,10 @@
 //! Random recordings of a table's clocks, which the table accepts for long.
 
 use super::tables::{digits, Word};
-use super::ticks::Judged;
+use super::ticks::{self, Judged};
+use crate::monitors::operands;
 use crate::random::Random;
-use second_opinion::{start_word, Table};
+use second_opinion::{start_word, Kind, Pair, Table};
 
 /// A recording as words: the commands of the header, the last of which is `$enddefinitions $end`,
 /// and the body.
@@ -149,7 +150,7 @@ fn header(random: &mut Random, table: &Table, ids: &[Word]) -> Vec<Vec<Word>> {
 
 /// A name that the table lacks.
 fn ignored_name(random: &mut Random, table: &Table) -> Word {
-    let names = "other clk x $end [3:0] a.b = await 0 a_name_of_over_16_bytes #0 $var";
+    let names = "other clk x $end [3:0] a.b = await for deferred 0 a_name_of_over_16_bytes #0 $var";
     let name = random.pick_word(names);
     if table.names.iter().any(|known| known == name) {
         return word("~");
@@ -209,11 +210,44 @@ impl Times {
     }
 }
 
+/// Clocks that tick seldom, so that the delays they are operands of stay pending for long.
+struct Slow {
+    clocks: u32,
+    /// They may tick once in so many steps.
+    times: usize,
+}
+
+impl Slow {
+    /// None, or operands of delays: all, those whose ticks are counted, or any.
+    fn any(random: &mut Random, table: &Table) -> Slow {
+        let delays = table.records.iter().filter(|r| r.kind == Kind::Deferred);
+        let set = |set: u32, clock: u64| set | 1 << clock;
+        let all = delays.clone().flat_map(operands).fold(0, set);
+        let counted = delays.map(|record| record.second).fold(0, set);
+        let some = all & ticks::any(random, 32);
+        Slow {
+            clocks: random.pick(&[0, 0, all, counted, counted, some])
+                & ticks::all(table.named as u32),
+            times: random.pick(&[4, 20, 60, 200]),
+        }
+    }
+
+    /// Those that may not tick in this step.
+    fn resting(&self, random: &mut Random) -> u32 {
+        if self.clocks == 0 || random.once_in(self.times) {
+            0
+        } else {
+            self.clocks
+        }
+    }
+}
+
 /// Steps that hold, one after another, and one that fails where the plan has it.
 fn body(random: &mut Random, table: &Table, plan: Plan, recording: &mut Recording) {
     let judged = Judged::new(&table.records, table.named as u32);
-    let mut words: Vec<i64> = table.records.iter().map(start_word).collect();
+    let mut words: Vec<Pair> = table.records.iter().map(start_word).collect();
     let mut times = Times::any(random);
+    let slow = Slow::any(random, table);
     let plain = random.once_in(2);
     let mut left = plan.bytes.saturating_sub(size(recording) + 300);
     for _ in 0..plan.steps {
@@ -221,7 +255,8 @@ fn body(random: &mut Random, table: &Table, plan: Plan, recording: &mut Recordin
         let set = if resting {
             0
         } else {
-            judged.holding(random, &words)
+            let without = slow.resting(random);
+            judged.holding_without(random, &words, without)
         };
         if set == 0 && !times.every {
             continue;

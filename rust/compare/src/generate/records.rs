@@ -1,13 +1,13 @@
 //! Records, configurations and tick sets for start words, the single step and the same-place
 //! question, mostly such as are not refused.
 
-use super::tables::{self, Size};
+use super::tables::{self, kind_of, Size};
 use super::ticks::{self, Judged};
 use crate::case::{table_clocks, Case};
 use crate::monitors::{defines, KINDS};
 use crate::random::Random;
 use ccsl::Clocks;
-use second_opinion::{Configuration, Kind, Record, WORDS};
+use second_opinion::{Configuration, Delays, Kind, Pair, Record, WORDS};
 
 const MILLION: i64 = 1_000_000;
 
@@ -57,7 +57,7 @@ pub fn start(random: &mut Random) -> Case {
         mut records,
         mut clocks,
     } = Material::any(random);
-    while random.once_in(3) {
+    while random.once_in(2) {
         spoil_records(random, &mut records, &mut clocks);
     }
     Case::Start { records, clocks }
@@ -69,7 +69,7 @@ pub fn step(random: &mut Random) -> Case {
         mut records,
         mut clocks,
     } = Material::any(random);
-    let mut words = configuration(random, &records, word);
+    let mut words = configuration(random, &records, pair);
     let judged = Judged::new(&records, clocks.named);
     let mut set = match random.below(10) {
         0..=5 => judged.holding(random, &words),
@@ -108,13 +108,13 @@ pub fn place(random: &mut Random) -> Case {
         mut records,
         mut clocks,
     } = Material::any(random);
-    let mut first = configuration(random, &records, word);
+    let mut first = configuration(random, &records, pair);
     let mut second = first;
     match random.below(4) {
-        0 => second = configuration(random, &records, word),
+        0 => second = configuration(random, &records, pair),
         1 | 2 if !records.is_empty() => {
             let place = random.below(records.len());
-            second[place] = word(random, &records[place]);
+            second[place] = other_pair(random, &records[place], first[place]);
         }
         _ => {}
     }
@@ -134,7 +134,7 @@ pub fn place(random: &mut Random) -> Case {
 }
 
 /// A question about two configurations of few clocks and small words, whose continuations can all
-/// be looked at.
+/// be looked at; sometimes delays have any numbers and any pairs.
 pub fn search(random: &mut Random) -> Case {
     let named = random.within(2..=5) as u32;
     let implicit = if random.once_in(4) {
@@ -148,23 +148,45 @@ pub fn search(random: &mut Random) -> Case {
     };
     let count = random.within(1..=3);
     let Material { mut records, .. } = Material::of(random, clocks, count);
+    let long = random.once_in(4);
     for record in &mut records {
-        if record.kind == Kind::Await {
-            record.number = random.within(1..=6) as u64;
+        match record.kind {
+            Kind::Await => record.number = random.within(1..=6) as u64,
+            Kind::Deferred if !long => record.delays = small_delays(random, record.delays),
+            _ => {}
         }
     }
-    let first = configuration(random, &records, small_word);
+    let pair = if long { pair_for_search } else { small_pair };
+    let first = configuration(random, &records, pair);
     let mut second = first;
     let place = random.below(records.len());
     if !random.once_in(3) {
-        second[place] = small_word(random, &records[place]);
+        second[place] = other_for_search(random, &records[place], first[place], long);
     }
     Case::Search {
         records,
         clocks,
         first,
         second,
-        depth: 8,
+        depth: 16,
+    }
+}
+
+/// A pair that a search can tell from another, if it is another: of a delay often with the same pending
+/// ticks.
+fn other_for_search(random: &mut Random, record: &Record, one: Pair, long: bool) -> Pair {
+    match record.kind {
+        Kind::Deferred if long => other_pair(random, record, one),
+        Kind::Deferred if random.once_in(3) => [one[0], small_pair(random, record)[1]],
+        _ => small_pair(random, record),
+    }
+}
+
+/// A list of at most three numbers, each at most three, of a proper one.
+fn small_delays(random: &mut Random, delays: Delays) -> Delays {
+    Delays {
+        numbers: delays.numbers.map(|_| random.within(1..=3) as u8),
+        length: delays.length.min(3),
     }
 }
 
@@ -243,9 +265,9 @@ pub fn record(random: &mut Random, clocks: Clocks, defined: &[u64]) -> Record {
             _ => order.len() > 1,
         })
         .collect();
-    let mut kind = random.pick(&kinds);
+    let mut kind = kind_of(random, &kinds);
     while !waiting.is_empty() && !defines(kind) && random.once_in(2) {
-        kind = random.pick(&kinds);
+        kind = kind_of(random, &kinds);
     }
     let others: Vec<u64> = order
         .iter()
@@ -270,6 +292,7 @@ pub fn record(random: &mut Random, clocks: Clocks, defined: &[u64]) -> Record {
             _ => random.pick(&others),
         },
         number,
+        delays: delays(random, kind),
         line: free(random),
     }
 }
@@ -282,6 +305,60 @@ pub fn number(random: &mut Random, kind: Kind) -> u64 {
     }
 }
 
+/// A list for a delay, often with anything past its length; or one for a kind that has none.
+pub fn delays(random: &mut Random, kind: Kind) -> Delays {
+    if kind != Kind::Deferred {
+        return if random.once_in(4) {
+            any_delays(random)
+        } else {
+            Delays::default()
+        };
+    }
+    let Delays {
+        mut numbers,
+        length,
+    } = tables::delays(random);
+    if random.once_in(2) {
+        numbers[length as usize..].copy_from_slice(&any_delays(random).numbers[length as usize..]);
+    }
+    Delays { numbers, length }
+}
+
+/// A list of any length with any numbers, mostly such as stand at an edge.
+fn any_delays(random: &mut Random) -> Delays {
+    let edges = [0, 1, 2, 31, 32, 33, 34, 64, 127, 128, 160, 254, 255];
+    let lengths = [
+        9,
+        10,
+        16,
+        255,
+        256,
+        257,
+        264,
+        1 << 32,
+        (1 << 32) + 1,
+        1 << 63,
+        u64::MAX,
+    ];
+    let mut numbers = tables::delays(random).numbers;
+    for number in &mut numbers {
+        if random.once_in(3) {
+            *number = if random.once_in(2) {
+                random.pick(&edges)
+            } else {
+                random.below(256) as u8
+            };
+        }
+    }
+    Delays {
+        numbers,
+        length: match random.below(3) {
+            0 => random.pick(&lengths),
+            _ => random.below(10) as u64,
+        },
+    }
+}
+
 /// A number for a field that means nothing.
 pub fn free(random: &mut Random) -> u64 {
     if random.once_in(4) {
@@ -291,17 +368,47 @@ pub fn free(random: &mut Random) -> u64 {
     }
 }
 
-/// A configuration with words by the rule.
+/// A configuration with pairs by the rule.
 fn configuration(
     random: &mut Random,
     records: &[Record],
-    word: fn(&mut Random, &Record) -> i64,
+    pair: fn(&mut Random, &Record) -> Pair,
 ) -> Configuration {
-    let mut words = [0; WORDS];
+    let mut words = [[0, 0]; WORDS];
     for (place, record) in records.iter().enumerate().take(WORDS) {
-        words[place] = word(random, record);
+        words[place] = pair(random, record);
     }
     words
+}
+
+/// A pair in range, often at an edge.
+pub fn pair(random: &mut Random, record: &Record) -> Pair {
+    let used = match record.kind {
+        Kind::Deferred => used(random, record),
+        _ => 0,
+    };
+    [word(random, record), used]
+}
+
+/// How many numbers of a list are used, often none or all.
+fn used(random: &mut Random, record: &Record) -> i64 {
+    let length = record.delays.length as usize;
+    let any = random.within(0..=length);
+    random.pick(&[0, any, any, length]) as i64
+}
+
+/// A pair in range, for a delay often with one of the words of another pair, or with a pending word of
+/// one bit more or less.
+fn other_pair(random: &mut Random, record: &Record, one: Pair) -> Pair {
+    let other = pair(random, record);
+    let random_bit = random.below(32);
+    match random.below(4) {
+        _ if record.kind != Kind::Deferred => other,
+        0 => [one[0], other[1]],
+        1 => [other[0], one[1]],
+        2 => [one[0] ^ 1 << random.pick(&[0, 31, random_bit]), one[1]],
+        _ => other,
+    }
 }
 
 /// A word in range, often at an edge.
@@ -318,11 +425,38 @@ fn word(random: &mut Random, record: &Record) -> i64 {
         Kind::Await => random
             .pick(&[0, 1, 2, gap, record.number as i64 - 1, record.number as i64])
             .min(record.number as i64),
+        Kind::Deferred => pending(random),
         _ => small_word(random, record),
     }
 }
 
-/// A word in range, from -6 to 6.
+/// Pending ticks in range: none, few, many, the next one, the last one or all.
+fn pending(random: &mut Random) -> i64 {
+    let any = random.bits() >> 32;
+    let few = any & random.bits() & random.bits();
+    let edges = [0, 0, 1, 2, 3, 1 << 31, (1 << 31) + 1, u64::from(u32::MAX)];
+    let edge = random.pick(&edges);
+    random.pick(&[any, few, few | 1, edge, edge]) as i64
+}
+
+/// A pair in range, with words from -6 to 7 and at most three numbers used.
+fn small_pair(random: &mut Random, record: &Record) -> Pair {
+    let used = match record.kind {
+        Kind::Deferred => random.within(0..=record.delays.length.min(3) as usize) as i64,
+        _ => 0,
+    };
+    [small_word(random, record), used]
+}
+
+/// The same but for delays, which have any.
+fn pair_for_search(random: &mut Random, record: &Record) -> Pair {
+    match record.kind {
+        Kind::Deferred => pair(random, record),
+        _ => small_pair(random, record),
+    }
+}
+
+/// A word in range, from -6 to 7.
 fn small_word(random: &mut Random, record: &Record) -> i64 {
     let small = random.within(0..=6) as i64;
     match record.kind {
@@ -331,6 +465,7 @@ fn small_word(random: &mut Random, record: &Record) -> i64 {
         Kind::Await => small.min(record.number as i64),
         Kind::StrictlySampled | Kind::Sampled => small.min(2),
         Kind::Upto => small.min(1),
+        Kind::Deferred => random.below(8) as i64,
         _ => 0,
     }
 }
@@ -362,6 +497,9 @@ pub fn spoil_records(random: &mut Random, records: &mut Vec<Record>, clocks: &mu
         random.pick(&CLOCKS),
     ];
     let defined = records[other].defined;
+    if random.once_in(5) {
+        return spoil_delays(random, &mut records[place]);
+    }
     let record = &mut records[place];
     match random.below(8) {
         0 => record.first = random.pick(&at_edge),
@@ -375,6 +513,23 @@ pub fn spoil_records(random: &mut Random, records: &mut Vec<Record>, clocks: &mu
                 random.pick(&[0, 1, 1_000_000, 1_000_001, 1 << 32, (1 << 32) + 1, u64::MAX])
         }
         _ => record.defined = defined,
+    }
+}
+
+/// Any list, or one that is nearly proper; often of a record that becomes a delay.
+fn spoil_delays(random: &mut Random, record: &mut Record) {
+    if !random.once_in(3) {
+        record.kind = Kind::Deferred;
+    }
+    let place = random.below(8);
+    match random.below(4) {
+        0 => record.delays = any_delays(random),
+        1 => record.delays.length = any_delays(random).length,
+        2 => {
+            record.delays = tables::delays(random);
+            record.delays.numbers[place] = random.pick(&[0, 1, 32, 33, 255]);
+        }
+        _ => record.delays.length = random.pick(&[0, 1, 7, 8, 9, 9]),
     }
 }
 
@@ -401,8 +556,30 @@ fn spoil_order(random: &mut Random, records: &mut Vec<Record>, place: usize, oth
     }
 }
 
-/// 60 and its other side.
+/// 60 and its other side: one of the words of a pair, or both.
 fn spoil_words(random: &mut Random, records: &[Record], words: &mut Configuration) {
+    let places = if random.once_in(3) {
+        WORDS
+    } else {
+        records.len().clamp(1, WORDS)
+    };
+    let is_delay = |place: &usize| records[*place].kind == Kind::Deferred;
+    let delays: Vec<usize> = (0..records.len().min(WORDS)).filter(is_delay).collect();
+    let place = if delays.is_empty() || random.once_in(2) {
+        random.below(places)
+    } else {
+        random.pick(&delays)
+    };
+    let record = records.get(place);
+    let half = random.below(2);
+    words[place][half] = strange_word(random, record, half);
+    if random.once_in(4) {
+        words[place][1 - half] = strange_word(random, record, 1 - half);
+    }
+}
+
+/// A word at an edge, often that of the record's range.
+fn strange_word(random: &mut Random, record: Option<&Record>, half: usize) -> i64 {
     let edges = [
         -1,
         1,
@@ -414,22 +591,22 @@ fn spoil_words(random: &mut Random, records: &[Record], words: &mut Configuratio
         MILLION + 1,
         i64::MIN,
         i64::MAX,
+        1 << 31,
+        (1 << 32) - 1,
         1 << 32,
         -(1 << 32),
         (1 << 32) + 1,
     ];
-    let places = if random.once_in(3) {
-        WORDS
-    } else {
-        records.len().clamp(1, WORDS)
-    };
-    let place = random.below(places);
-    words[place] = match records.get(place) {
-        Some(Record {
-            kind: Kind::Await,
-            number,
-            ..
-        }) if random.once_in(2) => (*number as i64).saturating_add(random.below(2) as i64),
+    let at_edge =
+        |random: &mut Random, last: u64| (last as i64).saturating_add(random.pick(&[-1, 0, 1]));
+    match (record.map(|record| record.kind), half) {
+        (Some(Kind::Await), 0) if random.once_in(2) => {
+            at_edge(random, record.map_or(0, |record| record.number))
+        }
+        (Some(Kind::Deferred), 0) if random.once_in(2) => at_edge(random, u64::from(u32::MAX)),
+        (Some(Kind::Deferred), 1) if random.once_in(2) => {
+            at_edge(random, record.map_or(0, |record| record.delays.length))
+        }
         _ => random.pick(&edges),
-    };
+    }
 }

@@ -1,4 +1,4 @@
-//! Tables at both sides of the limits 10 to 20.
+//! Tables at both sides of the limits 10 to 20 and 22.
 
 use super::nested::{closer, depths, is_parenthesis, nest, nest_deepest, opener, pairs};
 use super::tables::{digits, lines, name_of_length, names_in, Lines, Size, Word, FORM_WORDS};
@@ -7,10 +7,14 @@ use crate::random::Random;
 /// A fault, or something that is just no fault, put into the lines of a table.
 type Spoil = fn(&mut Random, &mut Lines);
 
-const SPOILS: [(usize, Spoil); 8] = [
+const SPOILS: [(usize, Spoil); 12] = [
     (6, shape),
     (3, long_name),
+    (2, form_word_for_name),
     (4, await_number),
+    (4, delay_list),
+    (2, delay_shape),
+    (5, delay_beside_others),
     (4, named_twice),
     (4, defined_twice),
     (2, many_clocks),
@@ -19,12 +23,14 @@ const SPOILS: [(usize, Spoil); 8] = [
 ];
 
 /// The same with parentheses.
-const NESTED_SPOILS: [(usize, Spoil); 8] = [
+const NESTED_SPOILS: [(usize, Spoil); 10] = [
     (3, pair_around),
     (2, inner_relation),
     (4, without_partner),
     (4, deep),
     (3, inner_await),
+    (3, inner_delay),
+    (2, delay_beside_others),
     (1, many_names),
     (2, many_clocks),
     (2, many_constraints),
@@ -255,21 +261,197 @@ fn await_number(random: &mut Random, lines: &mut Lines) {
 
 /// 14 and its other side: a line with await in parentheses, also behind another await.
 fn inner_await(random: &mut Random, lines: &mut Lines) {
-    let name = vec![name_of_length(random, 5)];
-    let inner = [vec![opener()], awaited(random), vec![closer()]].concat();
-    let mut line = match random.below(3) {
-        0 => [inner, vec![b"#".to_vec()], name].concat(),
-        1 => [name, vec![b"precedes".to_vec()], inner].concat(),
-        _ => {
-            let words = ["clockDef", "await", "2"].map(|word| word.as_bytes().to_vec());
-            [name, words.to_vec(), inner].concat()
-        }
-    };
+    let inner = awaited(random);
+    let mut line = line_around(random, inner);
     if random.once_in(2) {
         nest(random, &mut line, &clocks_of(lines));
     }
+    insert(random, lines, line);
+}
+
+/// A line with these words of a right side in parentheses: on either side of a relation, or as an
+/// operand of a definition.
+fn line_around(random: &mut Random, inside: Vec<Word>) -> Vec<Word> {
+    let name = vec![name_of_length(random, 5)];
+    let inner = [vec![opener()], inside, vec![closer()]].concat();
+    match random.below(6) {
+        0 => [inner, words_of("#"), name].concat(),
+        1 => [inner, words_of("="), name].concat(),
+        2 => [name, words_of("precedes"), inner].concat(),
+        3 => [name, words_of("clockDef await 2"), inner].concat(),
+        4 => [name, words_of("clockDef"), inner, words_of("upto q")].concat(),
+        _ => [
+            name,
+            words_of("clockDef q deferred"),
+            inner,
+            words_of("for 1 2"),
+        ]
+        .concat(),
+    }
+}
+
+/// The words of a text.
+fn words_of(text: &str) -> Vec<Word> {
+    text.split(' ')
+        .map(|word| word.as_bytes().to_vec())
+        .collect()
+}
+
+/// Puts a line at any place.
+fn insert(random: &mut Random, lines: &mut Lines, line: Vec<Word>) {
     let place = random.below(lines.0.len() + 1);
     lines.0.insert(place, line);
+}
+
+/// Delay numbers about the ends of their range, and about powers of two.
+const DELAYS: &str = "0 1 2 31 32 33 34 00 01 033 0032 0033 99 132 255 256 257 258 288 289 65537 \
+    4294967296 4294967297 4294967298 18446744073709551616 18446744073709551617 \
+    340282366920938463463374607431768211457";
+
+/// A delay number at an edge, also one of very many digits.
+fn delay_number(random: &mut Random) -> Word {
+    match random.below(12) {
+        0 => vec![b'9'; random.within(1..=120)],
+        1 => [
+            vec![b'0'; random.within(1..=120)],
+            random.pick_word(DELAYS).as_bytes().to_vec(),
+        ]
+        .concat(),
+        2..=4 => random.within(0..=33).to_string().into_bytes(),
+        _ => random.pick_word(DELAYS).as_bytes().to_vec(),
+    }
+}
+
+/// The words of a delay with a list at an edge: of no number to nine, or of a number of them about 256,
+/// and mostly with one number about the ends of its range.
+fn deferred(random: &mut Random) -> Vec<Word> {
+    let length = match random.below(24) {
+        0 => random.pick(&[10, 16, 17, 255, 256, 257, 264]),
+        1..=3 => 0,
+        4..=8 => random.within(7..=9),
+        _ => random.within(0..=9),
+    };
+    let number = |random: &mut Random| {
+        let number = random.within(1..=32) as u64;
+        digits(random, number)
+    };
+    let mut list: Vec<Word> = (0..length).map(|_| number(random)).collect();
+    if !list.is_empty() && !random.once_in(3) {
+        let place = random.below(list.len());
+        list[place] = delay_number(random);
+    }
+    let (a, b) = (name_of_length(random, 3), name_of_length(random, 4));
+    let form = |word: &str| word.as_bytes().to_vec();
+    [vec![a, form("deferred"), b, form("for")], list].concat()
+}
+
+/// A line with such a delay, flat or in parentheses.
+fn delay_line(random: &mut Random) -> Vec<Word> {
+    let inside = deferred(random);
+    if random.once_in(3) {
+        return line_around(random, inside);
+    }
+    let name = vec![name_of_length(random, 5)];
+    [name, words_of("clockDef"), inside].concat()
+}
+
+/// 22 and its other side: a line with a delay.
+fn delay_list(random: &mut Random, lines: &mut Lines) {
+    let line = delay_line(random);
+    insert(random, lines, line);
+}
+
+/// 22 and its other side: a line with a delay in parentheses, beside others.
+fn inner_delay(random: &mut Random, lines: &mut Lines) {
+    let inside = deferred(random);
+    let mut line = line_around(random, inside);
+    while random.once_in(2) {
+        nest(random, &mut line, &clocks_of(lines));
+    }
+    insert(random, lines, line);
+}
+
+/// 12: a delay without `for` or without `deferred`, or with something else among its numbers.
+fn delay_shape(random: &mut Random, lines: &mut Lines) {
+    let mut line = delay_line(random);
+    let place_of = |line: &[Word], form: &[u8]| line.iter().position(|word| word == form);
+    let list = place_of(&line, b"for").map_or(line.len(), |place| place + 1);
+    let numbers = line[list..]
+        .iter()
+        .take_while(|word| word[0].is_ascii_digit());
+    let at = random.within(list..=list + numbers.count());
+    match random.below(4) {
+        0 => drop(line.remove(list - 1)),
+        1 => line.retain(|word| word != b"deferred"),
+        2 => drop(line.splice(
+            at..at,
+            words_of(random.pick(&["( 2 )", "( )", "( x )", "x for 2"])),
+        )),
+        _ => {
+            let words = "x 2,3 2x -1 +1 1.0 for deferred For 0x2 = # ,";
+            line.insert(at, random.pick_word(words).as_bytes().to_vec());
+        }
+    }
+    insert(random, lines, line);
+}
+
+/// 12 and its other side: one of the words of a delay, or one that is nearly so, stands for a name.
+fn form_word_for_name(random: &mut Random, lines: &mut Lines) {
+    let Some(line) = some_line(random, lines) else {
+        return;
+    };
+    let places = names_in(line);
+    if !places.is_empty() {
+        let words = "deferred for deferred for For FOR fo fort for_ for1 Deferred deferred_ defer";
+        line[random.pick(&places)] = random.pick_word(words).as_bytes().to_vec();
+    }
+}
+
+/// 22 beside each other limit of a line, so that the one that is asked first can be seen.
+fn delay_beside_others(random: &mut Random, lines: &mut Lines) {
+    let mut one = Lines(vec![delay_line(random)]);
+    match random.below(12) {
+        0 => shape(random, &mut one),
+        1 => pair_around(random, &mut one),
+        2 => long_name(random, &mut one),
+        3 | 4 => nest_await(random, &mut one.0[0]),
+        5 => named_twice(random, &mut one),
+        6 | 7 => define_again(random, lines, &mut one.0[0]),
+        8 => deep(random, &mut one),
+        9 => without_partner(random, &mut one),
+        10 => many_clocks(random, lines),
+        _ => many_constraints(random, lines),
+    }
+    let place = match random.below(3) {
+        0 => random.below(lines.0.len() + 1),
+        _ => lines.0.len(),
+    };
+    lines.0.splice(place..place, one.0);
+}
+
+/// One of the operands of a line becomes an await with a number at an edge.
+fn nest_await(random: &mut Random, line: &mut Vec<Word>) {
+    let mut places = names_in(line);
+    places.retain(|place| *place > 0);
+    if !places.is_empty() {
+        let place = random.pick(&places);
+        let inner = [vec![opener()], awaited(random), vec![closer()]].concat();
+        line.splice(place..=place, inner);
+    }
+}
+
+/// A line that defines a clock defines one that the lines define already, if they do.
+fn define_again(random: &mut Random, lines: &Lines, line: &mut [Word]) {
+    let defines = |line: &[Word]| line.get(1).is_some_and(|word| word == b"clockDef");
+    let defined: Vec<Word> = lines
+        .0
+        .iter()
+        .filter(|line| defines(line))
+        .map(|line| line[0].clone())
+        .collect();
+    if defines(line) && !defined.is_empty() {
+        line[0] = random.pick(&defined);
+    }
 }
 
 /// 15, or 17: a line of more names than a table may have, often with one of them twice.

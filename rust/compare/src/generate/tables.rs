@@ -3,7 +3,8 @@
 use super::nested::{is_parenthesis, nest};
 use crate::monitors::{defines, KINDS};
 use crate::random::Random;
-use second_opinion::{Kind, Record};
+use second_opinion::{Delays, Kind, Record};
+use std::ops::Range;
 
 /// A word of a text.
 pub type Word = Vec<u8>;
@@ -13,7 +14,7 @@ pub type Word = Vec<u8>;
 pub struct Lines(pub Vec<Vec<Word>>);
 
 /// The words that are no names.
-pub const FORM_WORDS: [&str; 11] = [
+pub const FORM_WORDS: [&str; 13] = [
     "isSubClockOf",
     "strictly",
     "precedes",
@@ -25,6 +26,8 @@ pub const FORM_WORDS: [&str; 11] = [
     "await",
     "sampled",
     "upto",
+    "deferred",
+    "for",
 ];
 
 const LETTERS: &[u8] = b"abcdefghijklmnopqrstuvwxyzABCDEFGHIJKLMNOPQRSTUVWXYZ";
@@ -182,18 +185,49 @@ fn constraint(random: &mut Random, clocks: usize) -> Record {
     }
     let at = |place: usize| chosen.get(place).copied().unwrap_or(0);
     Record {
-        kind: random.pick(&KINDS[1..]),
+        kind: kind_of(random, &KINDS[1..]),
         first: at(0),
         second: at(1),
         defined: at(chosen.len() - 1),
         number: await_number(random),
+        delays: delays(random),
         line: 0,
     }
+}
+
+/// One of the kinds, a delay more often than any other if it is among them.
+pub fn kind_of(random: &mut Random, kinds: &[Kind]) -> Kind {
+    if kinds.contains(&Kind::Deferred) && random.once_in(6) {
+        return Kind::Deferred;
+    }
+    random.pick(kinds)
 }
 
 /// Mostly small, since recordings are short.
 fn await_number(random: &mut Random) -> u64 {
     random.pick(&[1, 1, 1, 2, 2, 2, 3, 3, 4, 5, 10, 50, 999_999, 1_000_000])
+}
+
+/// The list of a delay, with zeros behind it: mostly a few small numbers, since recordings are short.
+pub fn delays(random: &mut Random) -> Delays {
+    let length = match random.below(6) {
+        0 => 8,
+        1 => random.within(1..=8),
+        _ => random.within(1..=3),
+    };
+    let largest = random.pick(&[1, 3, 3, 5, 8, 32]);
+    let mut numbers = [0; 8];
+    for number in &mut numbers[..length] {
+        *number = match random.below(12) {
+            0 => 32,
+            1 => random.within(1..=32),
+            _ => random.within(1..=largest),
+        } as u8;
+    }
+    Delays {
+        numbers,
+        length: length as u64,
+    }
 }
 
 /// The words of a constraint's line.
@@ -240,6 +274,15 @@ pub fn words(random: &mut Random, record: &Record, names: &[Word]) -> Vec<Word> 
         Kind::StrictlySampled => definition("strictly sampled"),
         Kind::Sampled => definition("sampled"),
         Kind::Upto => definition("upto"),
+        Kind::Deferred => [
+            definition("deferred"),
+            form("for"),
+            record.delays.numbers[..record.delays.length as usize]
+                .iter()
+                .map(|number| digits(random, u64::from(*number)))
+                .collect(),
+        ]
+        .concat(),
     }
 }
 
@@ -247,7 +290,7 @@ pub fn words(random: &mut Random, record: &Record, names: &[Word]) -> Vec<Word> 
 pub fn right_side(random: &mut Random, name: &Word, other: Option<Word>) -> Vec<Word> {
     let kinds: Vec<Kind> = KINDS.into_iter().filter(|kind| defines(*kind)).collect();
     let kind = if other.is_some() {
-        random.pick(&kinds)
+        kind_of(random, &kinds)
     } else {
         Kind::Await
     };
@@ -258,6 +301,7 @@ pub fn right_side(random: &mut Random, name: &Word, other: Option<Word>) -> Vec<
         first: first as u64,
         second: 1 - first as u64,
         number: await_number(random),
+        delays: delays(random),
         line: 0,
     };
     let names = [name.clone(), other.unwrap_or_default()];
@@ -274,6 +318,27 @@ pub fn names_in(line: &[Word]) -> Vec<usize> {
     (0..line.len())
         .filter(|place| is_name(&line[*place]))
         .collect()
+}
+
+/// Where in a text the numbers of each list stand that a `for` opens.
+pub fn lists_in(text: &[u8]) -> Vec<Vec<Range<usize>>> {
+    let mut lists: Vec<Vec<Range<usize>>> = Vec::new();
+    let (mut open, mut start) = (false, 0);
+    for word in text.split(|byte| b" \n()".contains(byte)) {
+        let end = start + word.len();
+        open &= word.iter().all(u8::is_ascii_digit);
+        match lists.last_mut() {
+            Some(list) if open && !word.is_empty() => list.push(start..end),
+            _ => {}
+        }
+        if word == b"for" {
+            lists.push(Vec::new());
+            open = true;
+        }
+        open &= text.get(end) == Some(&b' ');
+        start = end + 1;
+    }
+    lists
 }
 
 /// The digits of a number, sometimes with zeros before them.
@@ -341,4 +406,29 @@ fn write_line(random: &mut Random, line: &[Word], style: Style, text: &mut Vec<u
     }
     let behind = spaces(random, 0);
     text.extend(vec![b' '; behind]);
+}
+
+#[cfg(test)]
+mod tests {
+    use super::*;
+
+    #[test]
+    fn lists_are_found_up_to_the_end_of_their_line_or_parenthesis() {
+        let lists = |text: &str| {
+            let lists = lists_in(text.as_bytes()).into_iter();
+            let numbers = |list: Vec<Range<usize>>| -> Vec<String> {
+                list.into_iter()
+                    .map(|place| text[place].to_string())
+                    .collect()
+            };
+            lists.map(numbers).collect::<Vec<_>>()
+        };
+        assert_eq!(lists("c clockDef a deferred b for 2 03"), [["2", "03"]]);
+        assert_eq!(lists("c clockDef a deferred b for\n5"), [[""; 0]]);
+        assert_eq!(
+            lists("(a deferred b for 2  3)= (d deferred e for 4 x 5)"),
+            [vec!["2", "3"], vec!["4"]]
+        );
+        assert_eq!(lists("a deferred b for(2)"), [[""; 0]]);
+    }
 }

@@ -3,7 +3,7 @@
 
 use crate::monitors::{defines, operands};
 use crate::random::Random;
-use second_opinion::{judge, Record};
+use second_opinion::{judge, Pair, Record};
 
 /// The set of all clocks below the count.
 pub fn all(clocks: u32) -> u32 {
@@ -65,7 +65,7 @@ impl<'a> Judged<'a> {
     }
 
     /// The set with the implicit clocks that tick beside it.
-    fn completed(&self, words: &[i64], mut set: u32) -> u32 {
+    fn completed(&self, words: &[Pair], mut set: u32) -> u32 {
         for place in &self.implicit {
             let with = set | 1 << self.records[*place].defined;
             if judge(&self.records[*place], words[*place], with).0 {
@@ -76,29 +76,34 @@ impl<'a> Judged<'a> {
     }
 
     /// Whether all records hold on the set.
-    fn holds(&self, words: &[i64], set: u32) -> bool {
+    fn holds(&self, words: &[Pair], set: u32) -> bool {
         let ticks = self.completed(words, set);
         self.records
             .iter()
             .zip(words)
-            .all(|(record, word)| judge(record, *word, ticks).0)
+            .all(|(record, pair)| judge(record, *pair, ticks).0)
     }
 
     /// Moves the words by a set on which all records hold.
-    pub fn step(&self, words: &mut [i64], set: u32) {
+    pub fn step(&self, words: &mut [Pair], set: u32) {
         let ticks = self.completed(words, set);
-        for (record, word) in self.records.iter().zip(words) {
-            *word = judge(record, *word, ticks).1;
+        for (record, pair) in self.records.iter().zip(words) {
+            *pair = judge(record, *pair, ticks).1;
         }
     }
 
     /// A set on which all records hold: a random one, mended; the empty one where that fails several
     /// times.
-    pub fn holding(&self, random: &mut Random, words: &[i64]) -> u32 {
+    pub fn holding(&self, random: &mut Random, words: &[Pair]) -> u32 {
+        self.holding_without(random, words, 0)
+    }
+
+    /// Such a set without some of the clocks.
+    pub fn holding_without(&self, random: &mut Random, words: &[Pair], without: u32) -> u32 {
         for _ in 0..4 {
-            let set = any(random, self.named);
+            let set = any(random, self.named) & !without;
             if let Some(mended) = self.mended(random, words, set) {
-                if mended != 0 {
+                if mended != 0 && mended & without == 0 {
                     return mended;
                 }
             }
@@ -107,7 +112,7 @@ impl<'a> Judged<'a> {
     }
 
     /// A set on which some record fails, if one is found.
-    pub fn failing(&self, random: &mut Random, words: &[i64]) -> Option<u32> {
+    pub fn failing(&self, random: &mut Random, words: &[Pair]) -> Option<u32> {
         for _ in 0..8 {
             let mut set = self.holding(random, words);
             if self.named > 0 {
@@ -121,12 +126,12 @@ impl<'a> Judged<'a> {
     }
 
     /// Goes round the records and mends those that fail, until all hold or it has taken too long.
-    fn mended(&self, random: &mut Random, words: &[i64], mut set: u32) -> Option<u32> {
+    fn mended(&self, random: &mut Random, words: &[Pair], mut set: u32) -> Option<u32> {
         let mut ticks = self.completed(words, set);
         for round in 0..8 {
             let mut whole = true;
-            for (place, (record, word)) in self.records.iter().zip(words).enumerate() {
-                if !judge(record, *word, ticks).0 {
+            for (place, (record, pair)) in self.records.iter().zip(words).enumerate() {
+                if !judge(record, *pair, ticks).0 {
                     whole = false;
                     set = self.mended_for(random, words, place, set, round > 3);
                     ticks = self.completed(words, set);
@@ -144,7 +149,7 @@ impl<'a> Judged<'a> {
     fn mended_for(
         &self,
         random: &mut Random,
-        words: &[i64],
+        words: &[Pair],
         place: usize,
         set: u32,
         fewer: bool,

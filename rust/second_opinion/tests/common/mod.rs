@@ -5,7 +5,7 @@ use second_opinion::*;
 
 pub const MILLION: i64 = 1_000_000;
 
-pub const KINDS: [Kind; 14] = [
+pub const KINDS: [Kind; 15] = [
     Kind::Empty,
     Kind::Coincides,
     Kind::Excludes,
@@ -20,6 +20,7 @@ pub const KINDS: [Kind; 14] = [
     Kind::StrictlySampled,
     Kind::Sampled,
     Kind::Upto,
+    Kind::Deferred,
 ];
 
 /// The tick of a, b and c in the records that `record` makes.
@@ -27,7 +28,8 @@ pub const A: u32 = 1;
 pub const B: u32 = 2;
 pub const C: u32 = 4;
 
-/// A record over a = 0, b = 1 and c = 2, with 3 clocks in all.
+/// A record over a = 0, b = 1 and c = 2, with 3 clocks in all. The number means
+/// something to await alone, and the list to a delay alone.
 pub fn record(kind: Kind) -> Record {
     Record {
         kind,
@@ -35,6 +37,7 @@ pub fn record(kind: Kind) -> Record {
         first: 0,
         second: 1,
         number: 6,
+        delays: delays(&[2, 3]),
         line: 1,
     }
 }
@@ -46,11 +49,51 @@ pub fn awaiting(number: u64) -> Record {
     }
 }
 
-/// A configuration that begins with these words.
-pub fn words(first: &[i64]) -> Configuration {
-    let mut configuration = [0; WORDS];
+/// A list of at most eight numbers, with zeros past its length.
+pub fn delays(list: &[u8]) -> Delays {
+    let mut numbers = [0; 8];
+    numbers[..list.len()].copy_from_slice(list);
+    Delays {
+        numbers,
+        length: list.len() as u64,
+    }
+}
+
+pub fn deferring(list: &[u8]) -> Record {
+    Record {
+        delays: delays(list),
+        ..record(Kind::Deferred)
+    }
+}
+
+/// A configuration that begins with these pairs.
+pub fn pairs(first: &[Pair]) -> Configuration {
+    let mut configuration = [[0, 0]; WORDS];
     configuration[..first.len()].copy_from_slice(first);
     configuration
+}
+
+/// A configuration that begins with these words, each with 0 as its second:
+/// "for all others the second is 0" (M-105).
+pub fn words(first: &[i64]) -> Configuration {
+    let first: Vec<Pair> = first.iter().map(|&word| [word, 0]).collect();
+    pairs(&first)
+}
+
+/// One record other than a delay, judged by its word.
+pub fn judged(record: &Record, word: i64, ticks: u32) -> (bool, i64) {
+    let (holds, [after, second]) = judge(record, [word, 0], ticks);
+    assert_eq!(second, 0);
+    (holds, after)
+}
+
+/// Whether a record, judged by itself, accepts a continuation from a pair.
+pub fn accepts(record: &Record, mut pair: Pair, continuation: &[u32]) -> bool {
+    continuation.iter().all(|&ticks| {
+        let (holds, after) = judge(record, pair, ticks);
+        pair = after;
+        holds
+    })
 }
 
 /// A single step by value, all clocks being named.
@@ -95,8 +138,9 @@ pub fn table(text: impl AsRef<[u8]>) -> Table {
 pub const HEADER: &str =
     "$var event 1 ! a $end $var event 1 \" b $end $var event 1 % c $end $enddefinitions $end ";
 
-/// "the form words below are not names"
-pub const FORM_WORDS: [&str; 11] = [
+/// "the form words below are not names"; "`deferred` and `for` become form
+/// words" (M-105)
+pub const FORM_WORDS: [&str; 13] = [
     "isSubClockOf",
     "strictly",
     "precedes",
@@ -108,6 +152,8 @@ pub const FORM_WORDS: [&str; 11] = [
     "await",
     "sampled",
     "upto",
+    "deferred",
+    "for",
 ];
 
 /// The commands that the header skips "up to their `$end`".
@@ -147,6 +193,7 @@ pub fn relation(kind: Kind, a: u64, b: u64, line: u64) -> Record {
         first: a,
         second: b,
         number: 0,
+        delays: Delays::default(),
         line,
     }
 }
@@ -164,6 +211,14 @@ pub fn await_definition(c: u64, n: u64, a: u64, line: u64) -> Record {
     Record {
         number: n,
         ..definition(Kind::Await, c, a, 0, line)
+    }
+}
+
+/// `c clockDef a deferred b for …`, as read from a table.
+pub fn delay_definition(c: u64, a: u64, b: u64, list: &[u8], line: u64) -> Record {
+    Record {
+        delays: delays(list),
+        ..definition(Kind::Deferred, c, a, b, line)
     }
 }
 
