@@ -20,10 +20,11 @@ use Rattle.constraint.specs.declared.Relation.the-variants.{Coincides, Excludes
 use Rattle.constraint.proofs.Booleans.{and-l, and-r}
 use Rattle.text.specs.Ascii.{ascii}
 use Rattle.text.specs.Bytes.{sameBytes}
-use Rattle.text.specs.Digits.{value, number}
+use Rattle.text.specs.Digits.{value}
 use Rattle.text.specs.Split.{bytesOf, front, rest}
 use Rattle.text.specs.declared.Number.the-variants.{TooLarge, Value}
 use Rattle.text.specs.declared.Span.{Span}
+use Rattle.text.proofs.Decimals.{number-digits}
 use Rattle.grammar.specs.Building.{defining}
 use Rattle.grammar.specs.Grammar.{Parsed, noForm, parsed, onlyIf, Placed, Formed, Operands, token, kindAt, isKind, upTo, numberUpTo, awaitNumber, sides, delayNumbers, pastDigits, allDelays, listed, isDeferred, isDelay, tail, second, pair, awaitSide, expression, isSide, atEnd, closed, lineForm}
 use Rattle.grammar.specs.Tokens.{is, tokenOf, lookUp}
@@ -42,9 +43,9 @@ abbrev pub cutAbove : (most : ℕ) → ℕ → ℕ
 cutAbove most n = cond (leb n most) n 0
 
 pub run-value : (most : ℕ) → most < 2 ^ 64 → (ds : Word) → isDigits ds ≡ true → numberUpTo most ds ≡ cutAbove most (value 0 ds)
-unfolding isDigits number
+unfolding isDigits
 run-value most m [] e = absurd (false≢true e)
-run-value most m (d ∷ ds) e = rw e (go (ltb (value 0 (d ∷ ds)) (2 ^ 64)) refl)
+run-value most m (d ∷ ds) e = ap (upTo most) (number-digits (d ∷ ds) (λ z. omega arith) e) ∙ go (ltb (value 0 (d ∷ ds)) (2 ^ 64)) refl
   where
     go : (x : Bool) → ltb (value 0 (d ∷ ds)) (2 ^ 64) ≡ x → upTo most (cond x (Value (value 0 (d ∷ ds))) TooLarge) ≡ cutAbove most (value 0 (d ∷ ds))
     go true q = refl

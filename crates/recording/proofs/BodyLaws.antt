@@ -9,7 +9,7 @@ use lib.ListN.{length, take, drop, getD}
 use lib.Seq.{take-all}
 use Rattle.limit.specs.declared.Limit.the-variants.{BodyWord}
 use Rattle.limit.specs.declared.Refusal.{Refusal}
-use Rattle.text.specs.Digits.{number}
+use Rattle.text.specs.Digits.{number, readDecimal}
 use Rattle.text.specs.Split.{bytesOf}
 use Rattle.text.specs.declared.Span.{Span}
 use Rattle.recording.specs.Answers.{turnAs}
@@ -42,7 +42,7 @@ behind (b ∷ bs) = take-all (length (b ∷ bs) - 1) bs (omega arith)
 
 -- a word without bytes is no mark
 pub no-digits : (o : Step) (at : ℕ) (w : List ℕ) → length w ≡ 0 → markTurn o at (number (drop 1 w)) ≡ stopped BodyWord at
-unfolding number
+unfolding number readDecimal
 no-digits o at [] e = refl
 no-digits o at (b ∷ bs) e = absurd (omega arith)
 

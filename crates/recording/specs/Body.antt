@@ -12,7 +12,7 @@ use Rattle.limit.specs.declared.Limit.the-variants.{BodyWord, MarkTime, ChangeB
 use Rattle.constraint.specs.Ticks.{bits, withTick}
 use Rattle.text.specs.Ascii.{ascii}
 use Rattle.text.specs.Bytes.{allBytes, sameBytes}
-use Rattle.text.specs.Digits.{number, value}
+use Rattle.text.specs.Digits.{number, readDecimal, value}
 use Rattle.text.specs.Split.{bytesOf, tokens, filled, grown}
 use Rattle.text.specs.declared.Number.{Number}
 use Rattle.text.specs.declared.Number.the-variants.{NotDigits, TooLarge, Value}
@@ -135,10 +135,10 @@ six-values : valuesFrom 33 94 ≡ ascii "01XZxz"
 six-values = refl
 
 equal-time : wordTurn bang (begin 0 7) 3 (ascii "#07") ≡ stopped MarkTime 3
-unfolding wordTurn number value allBytes
+unfolding wordTurn number readDecimal value allBytes
 equal-time = refl
 
 -- the step before a mark is closed, and so is the last
 two-steps : bodySteps bang (ascii "#7 #9 1!") unmarked (words (ascii "#7 #9 1!") 0) ≡ record { steps = begin 0 7 ∷ ticking 0 (begin 3 9) ∷ []; ending = ended }
-unfolding bodySteps onward closing wordTurn changeTurn withId sameBytes number value allBytes tokens filled grown
+unfolding bodySteps onward closing wordTurn changeTurn withId sameBytes number readDecimal value allBytes tokens filled grown
 two-steps = refl

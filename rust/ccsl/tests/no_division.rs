@@ -9,20 +9,21 @@ use std::path::{Path, PathBuf};
 use std::process::{Command, Stdio};
 
 /// The readers: a crate, and a function of it.
-const READERS: [(&str, &str); 2] = [("recording", "read_mark"), ("text", "decimal")];
+const READERS: [(&str, &str); 2] = [("recording", "read_mark"), ("text", "read_decimal")];
 
 /// What the readers are, with all that they call. The function that parts words, `text::next_word`, is
 /// called beside them and not by them.
-const WITH_THEIR_CALLS: [&str; 9] = [
+const WITH_THEIR_CALLS: [&str; 10] = [
     "recording::read_mark",
     "recording::stopped",
     "recording::timed",
-    "text::all_from",
     "text::decimal",
     "text::in_class",
     "text::part",
     "text::passes",
+    "text::read_decimal",
     "text::run_end",
+    "text::too_large",
 ];
 
 /// The calls of slices that have no source of ours.
@@ -175,19 +176,19 @@ fn a_division_in_a_copy_of_the_source_is_found() {
             "text",
             "if 1844674407370955161 <= n",
             "if 18446744073709551615 / 10 <= n",
-            "text::decimal divides",
+            "text::read_decimal divides",
         ),
         (
             "text",
             "n = n * 10 + d;",
             "n = n * 10 + d % 10;",
-            "text::decimal divides",
+            "text::read_decimal divides",
         ),
         (
             "text",
             "n = n * 10 + d;",
             "n = n * 10 + d;\n        n /= 1;",
-            "text::decimal divides",
+            "text::read_decimal divides",
         ),
         (
             "text",
@@ -242,10 +243,10 @@ fn a_reader_under_another_name_is_not_passed_over() {
         readers(&renamed),
         Err(vec!["recording::read_mark is not found".to_string()])
     );
-    let renamed = changed("text", "pub fn decimal(", "pub fn number(");
+    let renamed = changed("text", "pub fn read_decimal(", "pub fn digits(");
     assert_eq!(
         readers(&renamed),
-        Err(vec!["text::decimal is not found".to_string()])
+        Err(vec!["text::read_decimal is not found".to_string()])
     );
     assert_eq!(readers(&[]).expect_err("no source").len(), READERS.len());
 }
