@@ -10,23 +10,23 @@ use native.Mathlib.Omega.{arith}
 use borrow.Author.Tests.{lt-ltb, le-ltb}
 use lib.Bits.{or-lt}
 use lib.Dec.{leb, ltb}
-use lib.ListN.{length, take, drop, length-take}
+use lib.ListN.{length, take, length-take}
 use lib.Pow.{pow-lt, suc-ones}
 use Rattle.limit.specs.declared.Limit.{Limit}
 use Rattle.limit.specs.declared.Limit.the-variants.{RecordingLength, RecordingByte, VariableShape, DeclaredTwice, VariableUnknown, VariableCount, BodyWord, MarkTime, ChangeBeforeMark, TickTwice}
 use Rattle.constraint.specs.Ticks.{withTick, bits}
 use Rattle.text.specs.Bytes.{sameBytes}
-use Rattle.text.specs.Digits.{number}
+use Rattle.text.specs.Digits.{readDecimal}
 use Rattle.text.specs.Split.{bytesOf}
-use Rattle.text.specs.declared.Number.{Number}
-use Rattle.text.specs.declared.Number.the-variants.{NotDigits, TooLarge, Value}
+use Rattle.text.specs.declared.DecimalRead.{DecimalRead}
+use Rattle.text.specs.declared.DecimalRead.the-variants.{NotDigit, TooLarge, Value}
 use Rattle.text.specs.declared.Span.{Span}
 use Rattle.grammar.specs.Grammar.{clockOf}
 use Rattle.grammar.specs.Names.{position}
 use Rattle.grammar.specs.declared.Found.{Found}
 use Rattle.grammar.specs.declared.Found.the-variants.{At, Nothing}
 use Rattle.grammar.specs.declared.Names.{Names}
-use Rattle.recording.specs.Body.{opensMark, isValue, unmarked, begin, ticking, markTurn, foundTurn, variableTurn, changeTurn, wordTurn, Reading, closing, onward, bodySteps, bodyOf, reading}
+use Rattle.recording.specs.Body.{opensMark, isValue, unmarked, begin, ticking, timeTurn, markTurn, foundTurn, variableTurn, changeTurn, wordTurn, Reading, closing, onward, bodySteps, bodyOf, reading}
 use Rattle.limit.specs.Checked.{Checked, passed, stopped, refuseIf, andThen}
 use Rattle.recording.specs.Header.{says, commandOf, shaped, declare, Header, mostBytes, firstOther, close, byCommand, header, skipping, declaring, opened, words}
 use Rattle.recording.specs.Variables.{Variable, refusesUnknown, Naming, clockNamed, withId, lookUp, isDeclared, clockAgain, allDeclared}
@@ -182,10 +182,15 @@ module _ (g : Naming) (room : g .count ≤ 32) where
   zero-below : 0 < 2 ^ n
   zero-below = omega (arith, suc-ones n)
 
-  mark-ticking : (o : Step) (at : ℕ) (d : Number) → Each Ticking (markTurn o at d)
-  mark-ticking o at NotDigits = tt
-  mark-ticking o at TooLarge = tt
-  mark-ticking o at (Value t) = unless-broken Ticking (o .begun && leb t (o .time .0)) MarkTime at (passed (begin at t)) zero-below
+  time-ticking : (o : Step) (at : ℕ) (d : DecimalRead) → Each Ticking (timeTurn o at d)
+  time-ticking o at (NotDigit i) = tt
+  time-ticking o at (TooLarge i) = tt
+  time-ticking o at (Value t) = unless-broken Ticking (o .begun && leb t (o .time .0)) MarkTime at (passed (begin at t)) zero-below
+
+  mark-ticking : (o : Step) (at : ℕ) (w : List ℕ) → Each Ticking (markTurn o at w)
+  unfolding markTurn
+  mark-ticking o at [] = tt
+  mark-ticking o at (b ∷ ds) = time-ticking o at (readDecimal ds)
 
   abbrev AllTicking : List Step → Type 0
   AllTicking [] = Unit {0}
@@ -205,8 +210,8 @@ module _ (g : Naming) (room : g .count ≤ 32) where
     unfolding wordTurn
     word-ticking o at w h = go (opensMark w)
       where
-        go : (x : Bool) → Each Ticking (cond x (markTurn o at (number (drop 1 w))) (changeTurn vs o at w))
-        go true = mark-ticking o at (number (drop 1 w))
+        go : (x : Bool) → Each Ticking (cond x (markTurn o at w) (changeTurn vs o at w))
+        go true = mark-ticking o at w
         go false = change-ticking o at w h
 
     closing-ticking : (o : Step) (g : Reading) → Ticking o → AllTicking (g .steps) → AllTicking (closing o g .steps)

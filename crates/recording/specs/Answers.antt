@@ -3,10 +3,9 @@ use mathlib.Core.Path.{_≡_}
 use mathlib.Core.Bool.{cond}
 use mathlib.Core.List.{List, [], _∷_}
 use Prim.Native.Nat.{ℕ, _<_}
-use lib.ListN.{length, drop}
+use lib.ListN.{length}
 use Rattle.limit.specs.Checked.{Checked, passed, stopped, andThen, checked}
 use Rattle.limit.specs.declared.Check.the-variants.{Passed}
-use Rattle.text.specs.Digits.{number}
 use Rattle.text.specs.Split.{bytesOf, NextWord}
 use Rattle.text.specs.declared.Class.the-variants.{Parting}
 use Rattle.text.specs.declared.Span.{Span}
@@ -63,7 +62,7 @@ turnAs (Unturned f) = stopped (f .limit) (f .place .0)
 
 -- behind a step that a mark closes: the mark's digits, then the words behind it
 abbrev pub behindMark : List Variable → List ℕ → Step → (mark : Span) → Reading
-behindMark vs r o w = onward (markTurn o (w .start) (number (drop 1 (bytesOf r w)))) (λ p. bodySteps vs r p (words r (w .end)))
+behindMark vs r o w = onward (markTurn o (w .start) (bytesOf r w)) (λ p. bodySteps vs r p (words r (w .end)))
 
 abbrev pub behindChanges : List Variable → List ℕ → ChangesRead → Reading
 behindChanges vs r (Mark o w) = closing o (behindMark vs r o w)

@@ -6,16 +6,15 @@ use mathlib.Core.Bool.{Bool, true, false, not, cond, _&&_, _||_}
 use mathlib.Core.List.{List, [], _∷_}
 use Prim.Native.Nat.{ℕ, zero, suc, _+_}
 use lib.Dec.{eqb, leb}
-use lib.ListN.{drop}
 use Rattle.limit.specs.declared.Limit.{Limit}
 use Rattle.limit.specs.declared.Limit.the-variants.{BodyWord, MarkTime, ChangeBeforeMark, IdUndeclared, TickTwice}
 use Rattle.constraint.specs.Ticks.{bits, withTick}
 use Rattle.text.specs.Ascii.{ascii}
 use Rattle.text.specs.Bytes.{allBytes, sameBytes}
-use Rattle.text.specs.Digits.{number, readDecimal, value}
-use Rattle.text.specs.Split.{bytesOf, tokens, filled, grown}
-use Rattle.text.specs.declared.Number.{Number}
-use Rattle.text.specs.declared.Number.the-variants.{NotDigits, TooLarge, Value}
+use Rattle.text.specs.Digits.{readDecimal, overAt, value}
+use Rattle.text.specs.Split.{bytesOf, runEnd, tokens, filled, grown}
+use Rattle.text.specs.declared.DecimalRead.{DecimalRead}
+use Rattle.text.specs.declared.DecimalRead.the-variants.{NotDigit, TooLarge, Value}
 use Rattle.text.specs.declared.Span.{Span}
 use Rattle.grammar.specs.declared.Found.{Found}
 use Rattle.grammar.specs.declared.Found.the-variants.{At, Nothing}
@@ -45,11 +44,17 @@ begin at t = record { begun = true; mark = record { 0 = at }; time = record { 0 
 abbrev pub ticking : ℕ → Step → Step
 ticking k o = record { begun = o .begun; mark = o .mark; time = o .time; ticks = withTick (o .ticks) k }
 
--- a mark: 40 no digits, or other bytes among them; 41 time above 2^64 - 1 or not above the last
-abbrev pub markTurn : Step → (at : ℕ) → Number → Checked Step
-markTurn o at NotDigits = stopped BodyWord at
-markTurn o at TooLarge = stopped MarkTime at
-markTurn o at (Value t) = refuseIf (o .begun && leb t (o .time .0)) MarkTime at (passed (begin at t))
+-- a mark, by what is read behind its `#`: 40 no digits, or other bytes among them; 41 time above 2^64 - 1 or not above the last. Document 02, M-106:
+-- the place is the byte that spoils it; that of a time not above the last is the word
+abbrev pub timeTurn : Step → (at : ℕ) → DecimalRead → Checked Step
+timeTurn o at (NotDigit i) = stopped BodyWord (at + 1 + i)
+timeTurn o at (TooLarge i) = stopped MarkTime (at + 1 + i)
+timeTurn o at (Value t) = refuseIf (o .begun && leb t (o .time .0)) MarkTime at (passed (begin at t))
+
+-- a word that opens with `#`
+unfoldable pub markTurn : Step → (at : ℕ) → List ℕ → Checked Step
+markTurn o at [] = stopped BodyWord at
+markTurn o at (b ∷ ds) = timeTurn o at (readDecimal ds)
 
 -- a tick of the variable that was found: 43 id undeclared; 44 a table clock's second tick in a step
 abbrev pub foundTurn : Step → (at : ℕ) → Found → Checked Step
@@ -67,7 +72,7 @@ changeTurn vs o at (b ∷ []) = stopped BodyWord at
 changeTurn vs o at (b ∷ i ∷ is) = refuseIf (not (isValue b)) BodyWord at (variableTurn vs o at (i ∷ is))
 
 unfoldable pub wordTurn : List Variable → Step → (at : ℕ) → List ℕ → Checked Step
-wordTurn vs o at w = cond (opensMark w) (markTurn o at (number (drop 1 w))) (changeTurn vs o at w)
+wordTurn vs o at w = cond (opensMark w) (markTurn o at w) (changeTurn vs o at w)
 
 -- ---- reading alone
 
@@ -135,10 +140,27 @@ six-values : valuesFrom 33 94 ≡ ascii "01XZxz"
 six-values = refl
 
 equal-time : wordTurn bang (begin 0 7) 3 (ascii "#07") ≡ stopped MarkTime 3
-unfolding wordTurn number readDecimal value allBytes
+unfolding wordTurn markTurn readDecimal value allBytes
 equal-time = refl
+
+-- `#` alone, at the byte after it; the second `#`; the first of two letters; 2^64, at its twentieth digit
+bare : wordTurn bang (begin 0 7) 3 (ascii "#") ≡ stopped BodyWord 4
+unfolding wordTurn markTurn readDecimal
+bare = refl
+
+second-hash : wordTurn bang (begin 0 7) 3 (ascii "##5") ≡ stopped BodyWord 4
+unfolding wordTurn markTurn readDecimal allBytes runEnd
+second-hash = refl
+
+first-letter : wordTurn bang (begin 0 7) 3 (ascii "#12a9b") ≡ stopped BodyWord 6
+unfolding wordTurn markTurn readDecimal allBytes runEnd
+first-letter = refl
+
+too-large : wordTurn bang (begin 0 7) 3 (ascii "#18446744073709551616") ≡ stopped MarkTime 23
+unfolding wordTurn markTurn readDecimal value overAt allBytes
+too-large = refl
 
 -- the step before a mark is closed, and so is the last
 two-steps : bodySteps bang (ascii "#7 #9 1!") unmarked (words (ascii "#7 #9 1!") 0) ≡ record { steps = begin 0 7 ∷ ticking 0 (begin 3 9) ∷ []; ending = ended }
-unfolding bodySteps onward closing wordTurn changeTurn withId sameBytes number readDecimal value allBytes tokens filled grown
+unfolding bodySteps onward closing wordTurn markTurn changeTurn withId sameBytes readDecimal value allBytes tokens filled grown
 two-steps = refl

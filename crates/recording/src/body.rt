@@ -9,12 +9,10 @@ use limit::Limit;
 use limit::Place;
 use limit::Refusal;
 use text::Class;
-use text::Number;
+use text::DecimalRead;
 use text::Span;
 ghost use mathlib.Core.Path.{_≡_};
-ghost use lib.ListN.{drop};
 ghost use Rattle.limit.specs.Checked as k;
-ghost use Rattle.text.specs.Digits.{number};
 ghost use Rattle.text.specs.Split.{bytesOf};
 ghost use Rattle.recording.specs.Answers as a;
 ghost use Rattle.recording.specs.Body as b;
@@ -54,7 +52,7 @@ fn opens_mark(word: &[u8]) -> bool
 
 // A mark at a time.
 fn timed(step: Step, at: usize, time: u64) -> Turn
-    ensures { λ r. ⌜ a.turnAs r ≡ b.markTurn step at (Number.Value time) ⌝ }
+    ensures { λ r. ⌜ a.turnAs r ≡ b.timeTurn step at (DecimalRead.Value time) ⌝ }
 {
     if step.begun & (time <= step.time.0) {
         return stopped(Limit::MarkTime, at);
@@ -69,17 +67,17 @@ fn timed(step: Step, at: usize, time: u64) -> Turn
 
 // A word that opens with `#`, behind the step that it closes.
 pub fn read_mark(recording: &[u8], step: Step, word: Span) -> Turn
-    ensures { λ r. ⌜ a.turnAs r ≡ b.markTurn step (word .start) (number (drop 1 (bytesOf (now (recording .entry)) word))) ⌝ }
+    ensures { λ r. ⌜ a.turnAs r ≡ b.markTurn step (word .start) (bytesOf (now (recording .entry)) word) ⌝ }
 {
     let bytes = text::part(recording, word);
     if bytes.len() == 0 {
         return stopped(Limit::BodyWord, word.start);
     }
-    let said = text::decimal(&bytes[1..]);
+    let said = text::read_decimal(&bytes[1..]);
     match said {
-        Number::NotDigits => stopped(Limit::BodyWord, word.start),
-        Number::TooLarge => stopped(Limit::MarkTime, word.start),
-        Number::Value(time) => timed(step, word.start, time),
+        DecimalRead::NotDigit(i) => stopped(Limit::BodyWord, word.start + 1 + i),
+        DecimalRead::TooLarge(i) => stopped(Limit::MarkTime, word.start + 1 + i),
+        DecimalRead::Value(time) => timed(step, word.start, time),
     }
 }
 

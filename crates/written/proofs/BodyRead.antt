@@ -7,23 +7,22 @@ use native.Mathlib.Decide.{decLt}
 use native.Mathlib.Omega.{arith}
 use borrow.Author.Tests.{ne-eqb, lt-leb}
 use lib.Dec.{eqb, leb}
-use lib.ListN.{length, drop, length-append, length-drop}
+use lib.ListN.{length, drop, length-append}
 use Rattle.limit.specs.Checked.{passed}
 use Rattle.constraint.specs.Ticks.{Ticks, bits, withTick}
 use Rattle.constraint.proofs.TickSets.{bits-zero, with-tick-adds, with-tick-full}
-use Rattle.text.specs.Bytes.{parting, allBytes}
+use Rattle.text.specs.Bytes.{digit, parting, allBytes}
 use Rattle.text.specs.Digits.{digits}
 use Rattle.text.specs.Split.{span, bytesOf}
-use Rattle.text.specs.declared.Class.the-variants.{Parting}
-use Rattle.text.proofs.Decimals.{digits-are, number-of-digits}
-use Rattle.text.proofs.Runs.{words-over}
+use Rattle.text.proofs.Bytes.{all-to}
+use Rattle.text.proofs.Decimals.{digit-range, digits-all, read-of-digits}
 use Rattle.grammar.specs.declared.Found.the-variants.{At}
 use Rattle.recording.specs.BeforeWords.{recorded}
-use Rattle.recording.specs.Body.{begin, opensMark, isValue, changeTurn, ended, closing, onward, bodySteps}
+use Rattle.recording.specs.Body.{begin, opensMark, isValue, markTurn, changeTurn, Ending, endsWith, closing, onward, bodySteps}
 use Rattle.recording.specs.Header.{words}
 use Rattle.recording.specs.Variables.{Variable, lookUp}
 use Rattle.recording.specs.declared.Step.{Step}
-use Rattle.recording.proofs.BodyLaws.{body-done, body-mark, body-change}
+use Rattle.recording.proofs.BodyLaws.{body-mark, body-change}
 use Rattle.written.specs.Claim.{clockOf, readSteps, Each, Apart, Value, is-0, is-1, is-x, is-X, is-z, is-Z, Differ}
 use Rattle.written.specs.Layout.{WrittenVariable, WrittenTick, WrittenStep, texts, mark, tick, variableAt, tickAt, step}
 use Rattle.written.proofs.EachLaws.{each-all, each-to, each-with}
@@ -32,8 +31,14 @@ use Rattle.written.proofs.TickLaws.{ticked, ticked-set}
 
 -- ---- words
 
+-- a digit parts no words
+pub digit-outside : (b : ℕ) → digit b ≡ true → outside b ≡ true
+digit-outside b e =
+    let h = digit-range b e in
+    rw (ne-eqb b 9 (λ z. omega (arith, h)), ne-eqb b 10 (λ z. omega (arith, h)), ne-eqb b 13 (λ z. omega (arith, h)), ne-eqb b 32 (λ z. omega (arith, h)))
+
 mark-word : (t : ℕ) → Word (35 ∷ digits t)
-mark-word t = record { some = omega arith; whole = unfold allBytes in digits-are outside (λ d h. rw (ne-eqb (48 + d) 9 (λ z. omega arith), ne-eqb (48 + d) 10 (λ z. omega arith), ne-eqb (48 + d) 13 (λ z. omega arith), ne-eqb (48 + d) 32 (λ z. omega arith))) t }
+mark-word t = record { some = omega arith; whole = unfold allBytes in all-to digit outside digit-outside (digits t) (digits-all t) }
 
 -- a value is a byte of a recording and of a word, opens no mark, and is read as a value
 pub record Plain (v : ℕ) : Type 0 where
@@ -67,10 +72,10 @@ module _ (us : List Variable) (r : List ℕ) where
   -- a line with a mark
   mark-read : (o : Step) (at t : ℕ) (s : List ℕ) → drop at r ≡ mark t ++ s → t < 2 ^ 64 → (o .begun && leb t (o .time .0)) ≡ false
       → bodySteps us r o (words r at) ≡ closing o (bodySteps us r (begin at t) (words r (at + length (mark t))))
-  unfolding onward
+  unfolding onward markTurn
   mark-read o at t s d h e =
       let b : bytesOf r (span at (at + length (35 ∷ digits t))) ≡ 35 ∷ digits t = line-byte r (35 ∷ digits t) at s d in
-      body-mark us r o (words r at) _ _ (line-words r [] (35 ∷ digits t) at s (mark-word t) d) (ap opensMark b) ∙ rw (b, number-of-digits t h, e)
+      body-mark us r o (words r at) _ _ (line-words r [] (35 ∷ digits t) at s (mark-word t) d) (ap opensMark b) ∙ rw (b, read-of-digits t h, e)
 
   -- a line with a tick
   tick-read : (m t f at k v : ℕ) (id s : List ℕ) → drop at r ≡ tick v id ++ s → Plain v → Word id → lookUp us id ≡ At k → bits f k ≡ false
@@ -117,22 +122,24 @@ module _ (named : List ℕ → ℕ) (vs : List WrittenVariable) (us : List Varia
   abbrev Rises : Step → WrittenStep → Type 0
   Rises o s = (o .begun && leb (s .time) (o .time .0)) ≡ false
 
-  pub steps-read : (ss : List WrittenStep) (o : Step) (at : ℕ) → drop at r ≡ texts (step vs) ss ++ []
+  -- behind them stands what ends reading, whatever step is open
+  pub steps-read : (later : List ℕ) (e : Ending) (ss : List WrittenStep) (o : Step) (at : ℕ) → drop at r ≡ texts (step vs) ss ++ later
       → Each (λ s. s .time < 2 ^ 64) ss → Each (Rises o) ss → Apart (λ s t. s .time < t .time) ss
       → Each (λ s. Each Known (s .ticks)) ss → Each (λ s. Apart (λ i j. Differ (clock i) (clock j)) (s .ticks)) ss
-      → bodySteps us r o (words r at) ≡ closing o (record { steps = readSteps named vs at ss; ending = ended })
+      → ((p : Step) → bodySteps us r p (words r (at + length (texts (step vs) ss))) ≡ closing p (endsWith e))
+      → bodySteps us r o (words r at) ≡ closing o (record { steps = readSteps named vs at ss; ending = e })
   unfolding texts readSteps Each Apart
-  steps-read [] o at d t h a k p = body-done us r o (words r at) (words-over r Parting at (omega (arith, length-drop at r, ap (λ (l : List ℕ). length l) d)))
-  steps-read (s ∷ ss) o at d t h a k p =
+  steps-read later e [] o at d t h a k p q = let z : at + 0 ≡ at = omega arith in rw z at (q o)
+  steps-read later e (s ∷ ss) o at d t h a k p q =
       let m = mark (s .time) in
       let c = texts (tickAt vs) (s .ticks) in
-      let q = texts (step vs) ss ++ [] in
+      let b = texts (step vs) ss ++ later in
       let f = ticked 0 (map clock (s .ticks)) in
-      let e : drop at r ≡ m ++ (c ++ q) = first-text r at (step vs) s ss [] d ∙ append-assoc m c q in
+      let i : drop at r ≡ m ++ (c ++ b) = first-text r at (step vs) s ss later d ∙ append-assoc m c b in
       let z : at + length m + length c ≡ at + length (step vs s) = omega (arith, length-append m c) in
-      mark-read us r o at (s .time) (c ++ q) e (t .0) (h .0)
+      mark-read us r o at (s .time) (c ++ b) i (t .0) (h .0)
       ∙ ap (closing o)
-      (ticks-read (s .ticks) at (s .time) 0 (at + length m) q (left-behind r at m (c ++ q) e) (k .0) (each-all (s .ticks) (λ i. ap (λ (F : Ticks). F (clock i)) bits-zero)) (p .0)
+      (ticks-read (s .ticks) at (s .time) 0 (at + length m) b (left-behind r at m (c ++ b) i) (k .0) (each-all (s .ticks) (λ i. ap (λ (F : Ticks). F (clock i)) bits-zero)) (p .0)
       ∙ ap (λ (j : ℕ). bodySteps us r (openStep at (s .time) f) (words r j)) z
-      ∙ steps-read ss (openStep at (s .time) f) (at + length (step vs s)) (other-texts r at (step vs) s ss [] d) (t .1) (each-to ss (λ x g. lt-leb (x .time) (s .time) g) (a .0)) (a .1) (k .1) (p .1)
-      ∙ unfold closing in ap (λ (x : ℕ). record { steps = openStep at (s .time) x ∷ readSteps named vs (at + length (step vs s)) ss; ending = ended }) (ticked-set (map clock (s .ticks))))
+      ∙ steps-read later e ss (openStep at (s .time) f) (at + length (step vs s)) (other-texts r at (step vs) s ss later d) (t .1) (each-to ss (λ x g. lt-leb (x .time) (s .time) g) (a .0)) (a .1) (k .1) (p .1) (λ x. ap (λ (j : ℕ). bodySteps us r x (words r j)) (behind-texts r at (step vs) s ss later d) ∙ q x)
+      ∙ unfold closing in ap (λ (x : ℕ). record { steps = openStep at (s .time) x ∷ readSteps named vs (at + length (step vs s)) ss; ending = e }) (ticked-set (map clock (s .ticks))))

@@ -15,17 +15,21 @@ use Rattle.text.specs.Ascii.{ascii}
 use Rattle.text.specs.Bytes.{parting, allBytes, sameBytes}
 use Rattle.text.specs.Digits.{digits, digitsOf}
 use Rattle.text.proofs.Bytes.{equal-same, differ-same, all-append, all-to}
+use Rattle.text.specs.declared.Class.the-variants.{Parting}
 use Rattle.text.proofs.Decimals.{digits-are}
+use Rattle.text.proofs.Runs.{words-over}
 use Rattle.grammar.specs.declared.Found.the-variants.{At, Nothing}
 use Rattle.recording.specs.BeforeWords.{recorded}
-use Rattle.recording.specs.Body.{unmarked, closing, onward, reading}
+use Rattle.recording.specs.Body.{unmarked, Ending, ended, endsWith, closing, onward, bodySteps, reading}
 use Rattle.recording.specs.Header as recording
 use Rattle.recording.specs.Header.{words, opened}
 use Rattle.recording.specs.Variables.{Variable, ignored, refusesUnknown, Naming, withId, hasClock, clockAgain, allDeclared}
+use Rattle.recording.specs.declared.Step.{Step}
 use Rattle.recording.specs.declared.UnknownNames.{UnknownNames}
 use Rattle.recording.specs.declared.UnknownNames.the-variants.{Refused, Ignored}
 use Rattle.recording.proofs.BeforeWords.{before-words}
-use Rattle.written.specs.Claim.{variables, asRead, Each, Apart, graphic, Graphic, is-0, is-1, is-x, Declarable, Writable, WrittenIsRead, Misnamed, MisnamedIsRefused, byName}
+use Rattle.recording.proofs.BodyLaws.{body-done}
+use Rattle.written.specs.Claim.{variables, readSteps, asRead, Each, Apart, graphic, Graphic, is-0, is-1, is-x, Declarable, Writable, WrittenIsRead, Misnamed, MisnamedIsRefused, byName}
 use Rattle.written.specs.Layout.{WrittenVariable, WrittenTick, WrittenStep, line, texts, declarationWords, declaration, definitionsEnd, mark, tickAt, variableAt, step, header, written, two, three}
 use Rattle.written.proofs.BodyRead.{Plain, plain, Known, steps-read}
 use Rattle.written.proofs.EachLaws.{each-all, each-to, each-with, each-at}
@@ -113,10 +117,10 @@ module _ (g : Naming) (vs : List WrittenVariable) (ok : Declarable g vs) where
       ∙ declarations-read g r vs [] 0 s d (ok .ids) (ok .short) (ok .names) (ok .distinct) (ok .once)
       (each-all vs (λ v. unfold withId in refl)) (each-all vs (λ v. none-yet (g .named (v .name)))) (all-known (g .named) vs (g .unknown) (ok .known)) (omega (arith, ok .few))
 
--- ---- the whole
-module _ (g : Naming) (vs : List WrittenVariable) (ss : List WrittenStep) (ok : Writable g vs ss) where
+-- ---- the whole, and bytes behind it
+module _ (g : Naming) (vs : List WrittenVariable) (ss : List WrittenStep) (ok : Writable g vs ss) (later : List ℕ) (bytes : Recorded later) (fits : length (written vs ss ++ later) ≤ 65_536) where
   abbrev text : List ℕ
-  text = written vs ss
+  text = written vs ss ++ later
 
   abbrev us : List Variable
   us = variables (g .named) vs
@@ -151,37 +155,57 @@ module _ (g : Naming) (vs : List WrittenVariable) (ss : List WrittenStep) (ok : 
 
   text-recorded : Recorded text
   text-recorded =
-      all-append recorded (header vs) body
+      all-append recorded (written vs ss) later
+      (all-append recorded (header vs) body
       (all-append recorded (texts declaration vs) definitionsEnd (variables-recorded g vs (ok .declarations)) end-recorded)
-      (texts-recorded (step vs) ss (each-to ss step-recorded ticks))
+      (texts-recorded (step vs) ss (each-to ss step-recorded ticks)))
+      bytes
 
-  declarations-left : drop 0 text ≡ texts declaration vs ++ (definitionsEnd ++ body)
-  declarations-left = append-assoc (texts declaration vs) definitionsEnd body
+  header-left : text ≡ header vs ++ (body ++ later)
+  header-left = append-assoc (header vs) body later
 
-  end-left : drop (0 + length (texts declaration vs)) text ≡ definitionsEnd ++ body
-  end-left = left-behind text 0 (texts declaration vs) (definitionsEnd ++ body) declarations-left
+  declarations-left : drop 0 text ≡ texts declaration vs ++ (definitionsEnd ++ (body ++ later))
+  declarations-left = header-left ∙ append-assoc (texts declaration vs) definitionsEnd (body ++ later)
+
+  end-left : drop (0 + length (texts declaration vs)) text ≡ definitionsEnd ++ (body ++ later)
+  end-left = left-behind text 0 (texts declaration vs) (definitionsEnd ++ (body ++ later)) declarations-left
 
   body-at : 0 + length (texts declaration vs) + length definitionsEnd ≡ length (header vs)
   body-at = omega (arith, length-append (texts declaration vs) definitionsEnd)
 
-  body-left : drop (length (header vs)) text ≡ body ++ []
-  body-left = drop-at (header vs) body (length (header vs)) refl ∙ sym (append-nil body)
+  body-left : drop (length (header vs)) text ≡ body ++ later
+  body-left = ap (drop (length (header vs))) header-left ∙ drop-at (header vs) (body ++ later) (length (header vs)) refl
 
   header-read : opened g text ≡ passed (record { variables = us; body = words text (length (header vs)) })
   header-read =
-      variables-read g vs (ok .declarations) text (definitionsEnd ++ body) declarations-left text-recorded (ok .fits)
-      ∙ end-read g text us (0 + length (texts declaration vs)) body end-left (all-clocks us (g .count) (ok .covers))
+      variables-read g vs (ok .declarations) text (definitionsEnd ++ (body ++ later)) declarations-left text-recorded fits
+      ∙ end-read g text us (0 + length (texts declaration vs)) (body ++ later) end-left (all-clocks us (g .count) (ok .covers))
       ∙ ap (λ (i : ℕ). passed (record { variables = us; body = words text i })) body-at
 
-  is-read : reading g text ≡ asRead (g .named) vs ss
+  steps-at : length (header vs) + length body ≡ length (written vs ss)
+  steps-at = sym (length-append (header vs) body)
+
+  pub later-left : drop (length (written vs ss)) text ≡ later
+  later-left = drop-at (written vs ss) later (length (written vs ss)) refl
+
+  -- the steps, where what stands behind them ends reading so
+  pub ends-with : (e : Ending) → ((p : Step) → bodySteps us text p (words text (length (written vs ss))) ≡ closing p (endsWith e))
+      → reading g text ≡ record { steps = readSteps (g .named) vs (length (header vs)) ss; ending = e }
   unfolding onward closing
-  is-read =
+  ends-with e rest =
       rw header-read
-      (steps-read (g .named) vs us text ss unmarked (length (header vs)) body-left (ok .times) (each-all ss (λ s. refl)) (ok .rise)
-      (each-to ss (λ s e. each-to (s .ticks) known e) ticks) (ok .single))
+      (steps-read (g .named) vs us text later e ss unmarked (length (header vs)) body-left (ok .times) (each-all ss (λ s. refl)) (ok .rise)
+      (each-to ss (λ s e. each-to (s .ticks) known e) ticks) (ok .single) (λ p. ap (λ (i : ℕ). bodySteps us text p (words text i)) steps-at ∙ rest p))
+
+  -- nothing stands there
+  pub ends : later ≡ [] → reading g text ≡ asRead (g .named) vs ss
+  ends z = ends-with ended (λ p. body-done us text p _ (words-over text Parting (length (written vs ss)) (omega (arith, length-append (written vs ss) later, ap (λ (l : List ℕ). length l) z))))
 
 pub written-is-read : WrittenIsRead
-written-is-read = is-read
+unfolding allBytes
+written-is-read g vs ss ok =
+    let e : written vs ss ++ [] ≡ written vs ss = append-nil (written vs ss) in
+    rw e at (ends g vs ss ok [] refl (rw e (ok .fits)) refl)
 
 -- ---- a name that the table lacks
 

@@ -44,7 +44,7 @@ module _ (r : List ℕ) (at : ℕ) where
   left-next : (w : List ℕ) (c : ℕ) (s : List ℕ) → drop at r ≡ w ++ c ∷ s → drop (at + length w + 1) r ≡ s
   left-next w c s d = sym (drop-drop 1 (at + length w) r) ∙ ap (drop 1) (left-behind w (c ∷ s) d)
 
-  bytes-here : (w s : List ℕ) → drop at r ≡ w ++ s → bytesOf r (span at (at + length w)) ≡ w
+  pub bytes-here : (w s : List ℕ) → drop at r ≡ w ++ s → bytesOf r (span at (at + length w)) ≡ w
   bytes-here w s d = let z : at + length w - at ≡ length w = omega arith in rw (z, d) (take-at w s (length w) refl)
 
   -- the first of some texts, and the others

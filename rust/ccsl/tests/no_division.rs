@@ -13,11 +13,10 @@ const READERS: [(&str, &str); 2] = [("recording", "read_mark"), ("text", "read_d
 
 /// What the readers are, with all that they call. The function that parts words, `text::next_word`, is
 /// called beside them and not by them.
-const WITH_THEIR_CALLS: [&str; 10] = [
+const WITH_THEIR_CALLS: [&str; 9] = [
     "recording::read_mark",
     "recording::stopped",
     "recording::timed",
-    "text::decimal",
     "text::in_class",
     "text::part",
     "text::passes",
@@ -210,7 +209,7 @@ fn a_division_in_a_copy_of_the_source_is_found() {
         ),
         (
             "recording",
-            "text::decimal(&bytes[1..])",
+            "text::read_decimal(&bytes[1..])",
             "constraint::ticks(1, 0)",
             "constraint::ticks divides",
         ),
