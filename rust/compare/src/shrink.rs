@@ -197,11 +197,10 @@ fn starts_of_words(text: &[u8], at: usize) -> bool {
 
 fn starts_of_commands(text: &[u8], at: usize) -> bool {
     let rest = &text[at..];
-    starts_of_words(text, at)
-        && (rest.starts_with(b"#")
-            || rest.starts_with(b"$")
-                && !rest.starts_with(b"$end ")
-                && !rest.starts_with(b"$end\n"))
+    let is_end = rest
+        .strip_prefix(b"$end")
+        .is_some_and(|behind| behind.first().is_none_or(u8::is_ascii_whitespace));
+    starts_of_words(text, at) && (rest.starts_with(b"#") || rest.starts_with(b"$") && !is_end)
 }
 
 /// A record with its pairs in the first and the second configuration.
@@ -631,6 +630,25 @@ mod tests {
             shorter_text(b"a = b\nc clockDef a lub b\nb # c\n", &wanted),
             b"lub"
         );
+    }
+
+    #[test]
+    fn a_command_goes_up_to_its_end_whatever_parts_the_words() {
+        let commands = [
+            "$enddefinitions $end ",
+            "#0 1! ",
+            "#1 ",
+            "$var event 1 ! a $end",
+        ];
+        for parting in ["\t", "\n", "\r", " "] {
+            let commands = commands.map(|command| command.replace(' ', parting));
+            let text = commands.concat();
+            let pieces = pieces(text.as_bytes(), starts_of_commands);
+            assert_eq!(
+                pieces,
+                commands.each_ref().map(|command| command.as_bytes())
+            );
+        }
     }
 
     #[test]

@@ -477,6 +477,19 @@ fn whatever_the_case(case: &Case) -> Answer {
     second(&case)
 }
 
+/// A monitor that refuses a run as `other` says, where it says something.
+fn refused_otherwise(case: &Case, other: impl Fn(Refusal) -> Option<Refusal>) -> Answer {
+    let mut answer = second(case);
+    if let Answer::Run(Report {
+        verdict: Verdict::Refused(refusal),
+        ..
+    }) = &mut answer
+    {
+        *refusal = other(*refusal).unwrap_or(*refusal);
+    }
+    answer
+}
+
 /// A monitor that gives another answer where unknown names are refused and the run is refused with
 /// this number.
 fn other_than(
@@ -484,24 +497,17 @@ fn other_than(
     number: u64,
     other: fn(&[u8], &[u8], Refusal) -> Option<Refusal>,
 ) -> Answer {
-    let mut answer = second(case);
-    if let (
-        Case::Run {
-            table,
-            recording,
-            unknown: UnknownNames::Refused,
-        },
-        Answer::Run(Report {
-            verdict: Verdict::Refused(refusal),
-            ..
-        }),
-    ) = (case, &mut answer)
-    {
-        if refusal.number == number {
-            *refusal = other(table, recording, *refusal).unwrap_or(*refusal);
-        }
-    }
-    answer
+    let Case::Run {
+        table,
+        recording,
+        unknown: UnknownNames::Refused,
+    } = case
+    else {
+        return second(case);
+    };
+    refused_otherwise(case, |refusal| {
+        (refusal.number == number).then(|| other(table, recording, refusal))?
+    })
 }
 
 /// 38 for another refusal of a variable, if its name is there and the table lacks it.
@@ -572,6 +578,112 @@ fn zeros_with_38(case: &Case) -> Answer {
         report.configuration = [[0, 0]; second_opinion::WORDS];
     }
     answer
+}
+
+/// How a mark is refused: its bytes behind the `#`, the number, and the place counted from the `#`.
+struct Spoilt<'a> {
+    bytes: &'a [u8],
+    number: u64,
+    at: usize,
+}
+
+impl Spoilt<'_> {
+    /// Whether one of the bytes is no digit.
+    fn has_other_bytes(&self) -> bool {
+        self.number == 40 && !self.bytes.is_empty()
+    }
+
+    /// Whether the digits are too many for a time.
+    fn is_too_large(&self) -> bool {
+        self.number == 41 && self.at > 0
+    }
+
+    /// The number of leading zeros.
+    fn zeros(&self) -> usize {
+        self.bytes.iter().take_while(|byte| **byte == b'0').count()
+    }
+}
+
+/// A monitor that refuses a mark with another number or at another place, where `other` has them.
+fn other_mark(case: &Case, other: fn(Spoilt) -> Option<(u64, usize)>) -> Answer {
+    let Case::Run { recording, .. } = case else {
+        return second(case);
+    };
+    refused_otherwise(case, |Refusal { number, place }| {
+        let place = place as usize;
+        let is_refused = |(start, word): &(usize, &[u8])| {
+            [40, 41].contains(&number) && (*start..=start + word.len()).contains(&place)
+        };
+        let (start, word) = words_from(recording, 0).find(is_refused)?;
+        let bytes = word.strip_prefix(b"#")?;
+        let at = place - start;
+        let (number, at) = other(Spoilt { bytes, number, at })?;
+        let place = (start + at) as u64;
+        Some(Refusal { number, place })
+    })
+}
+
+/// A monitor that has 40 of a byte that is no digit at the word.
+fn no_digit_at_the_word(case: &Case) -> Answer {
+    other_mark(case, |mark| mark.has_other_bytes().then_some((40, 0)))
+}
+
+/// A monitor that has 40 at the last byte that is no digit.
+fn last_no_digit(case: &Case) -> Answer {
+    other_mark(case, |Spoilt { bytes, .. }| {
+        let last = bytes.iter().rposition(|byte| !byte.is_ascii_digit())?;
+        Some((40, 1 + last))
+    })
+}
+
+/// A monitor that has 40 of a bare `#` at the `#`.
+fn bare_at_the_word(case: &Case) -> Answer {
+    other_mark(case, |mark| mark.bytes.is_empty().then_some((40, 0)))
+}
+
+/// A monitor that has 41 of a time too large at the word.
+fn too_large_at_the_word(case: &Case) -> Answer {
+    other_mark(case, |mark| mark.is_too_large().then_some((41, 0)))
+}
+
+/// A monitor that has 41 of a time too large one byte too low.
+fn too_large_from_the_word(case: &Case) -> Answer {
+    other_mark(case, |mark| mark.is_too_large().then(|| (41, mark.at - 1)))
+}
+
+/// A monitor that does not count the zeros before a time too large.
+fn too_large_without_zeros(case: &Case) -> Answer {
+    other_mark(case, |mark| {
+        mark.is_too_large().then(|| (41, mark.at - mark.zeros()))
+    })
+}
+
+/// A monitor that has 41 of a time too large always at the twentieth digit behind the zeros.
+fn too_large_at_the_twentieth(case: &Case) -> Answer {
+    other_mark(case, |mark| {
+        mark.is_too_large().then(|| (41, mark.zeros() + 20))
+    })
+}
+
+/// A monitor that reads a mark byte by byte, and so asks 41 of the digits before it meets a byte that
+/// is none.
+fn too_large_before_no_digit(case: &Case) -> Answer {
+    other_mark(case, |Spoilt { bytes, .. }| {
+        let mut digits = bytes.iter().take_while(|byte| byte.is_ascii_digit());
+        let mut time = 0;
+        let last = digits.position(|digit| {
+            time = time * 10 + u128::from(digit - b'0');
+            time > u128::from(u64::MAX)
+        })?;
+        Some((41, 1 + last))
+    })
+}
+
+/// A monitor that has 41 of a time not above the last at its digits.
+fn not_above_at_its_digits(case: &Case) -> Answer {
+    other_mark(case, |mark| {
+        (mark.number == 41 && mark.at == 0).then_some((41, 1))
+    })
 }
 
 /// What is found when a wrong monitor is compared with the library.
@@ -700,6 +812,45 @@ fn a_wrong_place_of_38_is_found_with_one_variable() {
 #[test]
 fn words_that_are_no_start_words_with_38_are_found_with_one_variable() {
     assert_run_of(zeros_with_38, UnknownNames::Refused, 1, VARIABLE);
+}
+
+/// What is found is a run by no table, of a recording whose body is as long as one of these.
+#[track_caller]
+fn assert_body_of(wrong: fn(&Case) -> Answer, bodies: &[&str]) {
+    let mismatch = found(wrong);
+    let (table, recording, unknown) = run_of(&mismatch);
+    assert_eq!(
+        (table, unknown),
+        (&b""[..], UnknownNames::Refused),
+        "{mismatch}"
+    );
+    let as_long = |body: &&str| "$enddefinitions $end ".len() + body.len() == recording.len();
+    assert!(bodies.iter().any(as_long), "{mismatch}");
+}
+
+#[test]
+fn a_wrong_place_of_40_in_a_mark_is_found_with_one_mark() {
+    assert_body_of(no_digit_at_the_word, &["#x"]);
+    assert_body_of(last_no_digit, &["#xx"]);
+    assert_body_of(bare_at_the_word, &["#"]);
+}
+
+#[test]
+fn a_wrong_place_of_41_is_found_with_one_mark_or_two() {
+    // Of each the second is longer, and has no digit that can be taken out.
+    let too_large = ["#18446744073709551616", "#100000000000000000000"];
+    assert_body_of(too_large_at_the_word, &too_large);
+    assert_body_of(too_large_from_the_word, &too_large);
+    let with_zero = ["#018446744073709551616", "#0100000000000000000000"];
+    assert_body_of(too_large_without_zeros, &with_zero);
+    assert_body_of(too_large_at_the_twentieth, &too_large[1..]);
+    assert_body_of(not_above_at_its_digits, &["#0 #0", "#18 #9"]);
+}
+
+#[test]
+fn a_time_too_large_before_a_byte_that_is_no_digit_is_found_with_one_mark() {
+    let both = ["#18446744073709551616x", "#100000000000000000000x"];
+    assert_body_of(too_large_before_no_digit, &both);
 }
 
 /// What is found is a table of at most so many lines, with at most so many expressions in parentheses.

@@ -19,6 +19,8 @@
 //! Since M-105 there are delays, and "every constraint's part of a configuration
 //! becomes two words".
 //!
+//! Since M-106 a mark is refused at "the first byte that spoils" it.
+//!
 //! The crate is written from the scope paper (document 01) and the change
 //! requests (document 02) alone, and shares nothing with the monitor that it is
 //! held against. Quoted sentences in these comments are the scope paper's, or a

@@ -42,7 +42,12 @@ pub(crate) struct Word<'r> {
 impl Word<'_> {
     /// A refusal at this word.
     pub fn refuse(&self, number: u64) -> Refusal {
-        Refusal::new(number, self.offset)
+        self.refuse_at(number, 0)
+    }
+
+    /// A refusal at a byte of this word, or at the one behind it (M-106).
+    pub fn refuse_at(&self, number: u64, index: usize) -> Refusal {
+        Refusal::new(number, self.offset + index)
     }
 }
 

@@ -169,22 +169,44 @@ impl<'t> Monitor<'t> {
 }
 
 /// "In the body `#` and one or more decimal digits start a step at that time."
-/// Another word is 40; a "time above 2^64 - 1 or not above the last" is 41.
+/// Asked in this order: 40 a byte that is no digit, or none at all; 41 a "time
+/// above 2^64 - 1"; 41 one "not above the last". The first two have "the offset
+/// of the first byte that spoils a mark"; "a time not above the last and a bad
+/// change still point at the word" (M-106).
 fn mark(word: Word, digits: &str, last: Option<Time>) -> Result<OpenStep, Refusal> {
-    if digits.is_empty() || !digits.bytes().all(|byte| byte.is_ascii_digit()) {
-        return Err(word.refuse(40));
+    // `digits` is what stands behind the one byte `#`.
+    let spoilt_by = |number, index: usize| word.refuse_at(number, 1 + index);
+    // "A mark with a byte that is no digit is 40 at the first such byte, however
+    // large its digits" (M-106).
+    if let Some(index) = digits.bytes().position(|byte| !byte.is_ascii_digit()) {
+        return Err(spoilt_by(40, index));
+    }
+    // "for a bare `#`, the byte after it" (M-106), which the recording may lack
+    if digits.is_empty() {
+        return Err(spoilt_by(40, 0));
     }
     let time = digits
         .parse()
         .map(Time)
-        .ok()
-        .filter(|&time| last.is_none_or(|last| time > last))
-        .ok_or_else(|| word.refuse(41))?;
+        .map_err(|_| spoilt_by(41, too_large_from(digits)))?;
+    if last.is_some_and(|last| time <= last) {
+        return Err(word.refuse(41));
+    }
     Ok(OpenStep {
         time,
         offset: word.offset,
         ticks: 0,
     })
+}
+
+/// The index of "the digit that takes the time above 2^64 - 1" (M-106), in
+/// digits that do: the first with which what is there so far can't be read.
+/// Leading zeros are left aside, and behind them a few digits are enough.
+fn too_large_from(digits: &str) -> usize {
+    let counting = digits.trim_start_matches('0');
+    let is_read = |length: &usize| counting[..*length].parse::<u64>().is_ok();
+    let zeros = digits.len() - counting.len();
+    zeros + (1..=counting.len()).take_while(is_read).count()
 }
 
 /// "Each of 0, 1, x, X, z, Z before an id is now a tick" (document 02, M-100).
@@ -218,14 +240,17 @@ mod tests {
     fn in_a_whole_run_51_has_the_steps_mark_offset_as_its_place() {
         let table = read_table(b"a precedes b").expect("a table");
         let header = "$var event 1 ! a $end $var event 1 \" b $end $enddefinitions $end";
-        let mut monitor = Monitor::start(&table);
-        monitor.configuration[0] = [999_999, 0];
-        let recording = format!("{header} #1 1! #2 1! 1\" #3 1! #4");
-        let answer = monitor.read(recording.as_bytes(), UnknownNames::Ignored);
-        let offset = recording.find("#3").expect("the mark");
-        assert_eq!(answer, Err(Verdict::Refused(Refusal::new(51, offset))));
-        assert_eq!(monitor.steps, Steps(2));
-        assert_eq!(monitor.configuration[0], [1_000_000, 0]);
+        // Whatever mark comes next, and none (M-106).
+        for next in ["#4", "#3", "#", "##5", "#4x", "#99999999999999999999", ""] {
+            let mut monitor = Monitor::start(&table);
+            monitor.configuration[0] = [999_999, 0];
+            let recording = format!("{header} #1 1! #2 1! 1\" #3 1! {next}");
+            let answer = monitor.read(recording.as_bytes(), UnknownNames::Ignored);
+            let offset = recording.find("#3").expect("the mark");
+            assert_eq!(answer, Err(Verdict::Refused(Refusal::new(51, offset))));
+            assert_eq!(monitor.steps, Steps(2));
+            assert_eq!(monitor.configuration[0], [1_000_000, 0]);
+        }
     }
 
     /// The same for an implicit lub: b takes its word to -1,000,000, a and b

@@ -57,6 +57,8 @@ fn random_words_make_no_run_panic() {
         "Z!",
         "1\"",
         "#",
+        "#4x",
+        "#99999999999999999999",
         "$date",
         "$enddefinitions",
         "é",

@@ -1,5 +1,5 @@
 //! The section "Edges": ten rows, and the list "Run as tests", with `0!` as
-//! M-100 has it.
+//! M-100 has it and the places of times too large as M-106 has them.
 
 mod common;
 
@@ -156,8 +156,10 @@ fn a_time_of_2_to_the_64_less_1_is_read_and_2_to_the_64_is_41() {
         time: u64::MAX,
     };
     assert_eq!(verdict("a # b", most), (violated, 0));
+    // At its twentieth digit (M-106).
     let over = format!("{HEADER}#18446744073709551616");
-    assert_eq!(verdict("a # b", over), refused_run(41, HEADER.len(), 0));
+    let expected = refused_run(41, HEADER.len() + 20, 0);
+    assert_eq!(verdict("a # b", over), expected);
 }
 
 #[test]
@@ -177,19 +179,18 @@ fn times_with_and_without_a_last_digit_about_that_of_2_to_the_64() {
             assert_eq!(verdict("a # b", recording), (violated, 0));
         }
     }
+    // Each with the number of its digit that is too much (M-106).
     let too_large = [
-        "18446744073709551619",
-        "18446744073709551620",
-        "20000000000000000000",
-        "100000000000000000000",
+        ("18446744073709551619", 20),
+        ("18446744073709551620", 20),
+        ("20000000000000000000", 20),
+        ("100000000000000000000", 21),
     ];
-    for digits in too_large {
-        for digits in [digits.to_string(), zeros.clone() + digits] {
-            let recording = format!("{HEADER}#{digits} 1! 1\"");
-            assert_eq!(
-                verdict("a # b", recording),
-                refused_run(41, HEADER.len(), 0)
-            );
+    for (digits, digit) in too_large {
+        for zeros in ["", &zeros] {
+            let recording = format!("{HEADER}#{zeros}{digits} 1! 1\"");
+            let expected = refused_run(41, HEADER.len() + zeros.len() + digit, 0);
+            assert_eq!(verdict("a # b", recording), expected, "{zeros}{digits}");
         }
     }
 }

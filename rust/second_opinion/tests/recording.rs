@@ -1,6 +1,6 @@
-//! The recording: readings 21 to 36, and M-100's readings 1 to 6, with which 34
-//! fell. Names that the table lacks are ignored; `unknown_names` has the other
-//! choice.
+//! The recording: readings 21 to 36, M-100's readings 1 to 6, with which 34
+//! fell, and M-106's readings 60 to 64, the places of 40 and 41. Names that the
+//! table lacks are ignored; `unknown_names` has the other choice.
 
 mod common;
 
@@ -264,23 +264,32 @@ fn reading_29_after_30_to_37_the_configuration_is_the_start_words() {
 #[test]
 fn reading_30_words_that_are_neither_mark_nor_change_are_40() {
     for word in [
-        "1", "0", "x", "X", "z", "Z", "#", "#x", "#1x", "#-1", "#+1", "#1.5", "2!", "b1", "bx",
-        "b1!", "bx!", "r1.5", "r1.5!", "B", "B!", "R", "R!", "u", "u!", "-", "-!", "!", "$",
+        "1", "0", "x", "X", "z", "Z", "2!", "b1", "bx", "b1!", "bx!", "r1.5", "r1.5!", "B", "B!",
+        "R", "R!", "u", "u!", "-", "-!", "!", "$",
     ] {
-        assert_eq!(
-            body(&format!("#1 {word} #2")),
-            refused_run(40, 3, u64::from(word.starts_with('#'))),
-            "{word}"
-        );
+        let recording = format!("#1 {word} #2");
+        assert_eq!(body(&recording), refused_run(40, 3, 0), "{word}");
+    }
+    // The byte that spoils a mark (M-106); the first behind `#` stands at 4.
+    for (mark, place) in [
+        ("#", 4),
+        ("#x", 4),
+        ("#1x", 5),
+        ("#-1", 4),
+        ("#+1", 4),
+        ("#1.5", 5),
+    ] {
+        let recording = format!("#1 {mark} #2");
+        assert_eq!(body(&recording), refused_run(40, place, 1), "{mark}");
     }
 }
 
 #[test]
 fn reading_30_a_mark_with_a_byte_that_is_no_digit_is_40_before_41() {
-    assert_eq!(body("#5 #4x"), refused_run(40, 3, 1));
+    assert_eq!(body("#5 #4x"), refused_run(40, 5, 1));
     let long = "9".repeat(40);
-    assert_eq!(body(&format!("#5 #{long}x")), refused_run(40, 3, 1));
-    assert_eq!(body(&format!("#5 #{long}")), refused_run(41, 3, 1));
+    assert_eq!(body(&format!("#5 #{long}x")), refused_run(40, 44, 1));
+    assert_eq!(body(&format!("#5 #{long}")), refused_run(41, 23, 1));
 }
 
 #[test]
@@ -289,7 +298,7 @@ fn reading_31_any_word_that_opens_with_a_hash_judges_the_open_step_first() {
         let bad = format!("#0 #1 1! 1\" {mark}");
         assert_eq!(body(&bad), violated(1, 1, 1), "{mark}");
     }
-    assert_eq!(body("#0 1! #"), refused_run(40, 6, 1));
+    assert_eq!(body("#0 1! #"), refused_run(40, 7, 1));
     assert_eq!(body("#0 1! #0"), refused_run(41, 6, 1));
 }
 
@@ -405,7 +414,8 @@ fn m_100_reading_3_any_other_byte_before_an_id_stays_40() {
     for byte in 33..=126u8 {
         let expected = match byte {
             48 | 49 | 120 | 88 | 122 | 90 => (ACCEPTED, 1),
-            b'#' => refused_run(40, 3, 1),
+            // A mark, spoilt by the byte behind its `#` (M-106).
+            b'#' => refused_run(40, 4, 1),
             _ => refused_run(40, 3, 0),
         };
         let word = format!("{}!", byte as char);
@@ -479,6 +489,196 @@ fn m_100_reading_6_40_42_43_and_44_keep_their_order() {
         let second = format!("#0 #1 1! 1\" {value}!");
         assert_eq!(body(&second), refused_run(44, 12, 1), "{value}");
     }
+}
+
+/// A run in which this mark follows an accepted step at time 5. Its `#` stands at
+/// 3, its first digit at 4.
+fn mark_after_5(mark: &str) -> (Verdict, u64) {
+    body(&format!("#5 {mark}"))
+}
+
+#[test]
+fn m_106_reading_60_the_open_step_is_judged_before_the_bytes_of_a_mark() {
+    let nines = "9".repeat(100);
+    // Its `#` stands 9 bytes behind the header, or 12.
+    for (mark, number, place) in [
+        ("#", 40, 10),
+        ("##5", 40, 10),
+        ("#x", 40, 10),
+        ("#12a", 40, 12),
+        (&format!("#{nines}x"), 40, 110),
+        ("#18446744073709551616", 41, 29),
+        (&format!("#{nines}"), 41, 29),
+        ("#1", 41, 9),
+        ("#0", 41, 9),
+    ] {
+        let holds = format!("#0 #1 1! {mark}");
+        assert_eq!(body(&holds), refused_run(number, place, 2), "{mark}");
+        let fails = format!("#0 #1 1! 1\" {mark}");
+        assert_eq!(body(&fails), violated(1, 1, 1), "{mark}");
+    }
+}
+
+#[test]
+fn m_106_reading_61_a_mark_is_40_at_the_first_byte_that_is_no_digit() {
+    for (mark, place) in [
+        ("#x", 4),
+        ("#x12", 4),
+        ("#12a", 6),
+        ("#1a2", 5),
+        ("#6x7y8", 5),
+        ("#xy", 4),
+        ("#67xy", 6),
+        ("##5", 4),
+        ("##", 4),
+        ("#6#", 5),
+        ("#0006!", 8),
+        ("#6$end", 5),
+    ] {
+        let expected = refused_run(40, place, 1);
+        assert_eq!(mark_after_5(mark), expected, "{mark}");
+        let followed = format!("{mark} #9 q!");
+        assert_eq!(mark_after_5(&followed), expected, "{mark}");
+    }
+}
+
+#[test]
+fn m_106_reading_61_every_byte_but_the_ten_digits_spoils_a_mark() {
+    for byte in (33..=126u8).map(char::from) {
+        let digit = "0123456789".contains(byte);
+        let expected = |place| match digit {
+            true => (ACCEPTED, 2),
+            false => refused_run(40, place, 1),
+        };
+        assert_eq!(mark_after_5(&format!("#{byte}67")), expected(4), "{byte}");
+        assert_eq!(mark_after_5(&format!("#6{byte}7")), expected(5), "{byte}");
+        assert_eq!(mark_after_5(&format!("#67{byte}")), expected(6), "{byte}");
+    }
+}
+
+#[test]
+fn m_106_reading_61_it_is_40_however_large_the_digits() {
+    let nines = "9".repeat(100);
+    for (mark, place) in [
+        (format!("#{nines}x"), 3 + 101),
+        (format!("#x{nines}"), 4),
+        (format!("#12a{nines}"), 6),
+        (format!("#{nines}x{nines}y"), 3 + 101),
+        ("#18446744073709551616a".to_owned(), 3 + 21),
+        ("#1844674407370955161a6".to_owned(), 3 + 20),
+        ("#18446744073709551615a".to_owned(), 3 + 21),
+        // Nor does it matter that they are not above the last.
+        ("#5x".to_owned(), 5),
+        ("#4x".to_owned(), 5),
+    ] {
+        assert_eq!(mark_after_5(&mark), refused_run(40, place, 1), "{mark}");
+    }
+}
+
+#[test]
+fn m_106_reading_62_a_bare_hash_is_40_at_the_byte_after_it() {
+    for behind in [" ", "\n", "\r", "\t", " 6", "\n#6", " \n ", " 1!", ""] {
+        let mark = format!("#{behind}");
+        assert_eq!(mark_after_5(&mark), refused_run(40, 4, 1), "{behind:?}");
+        assert_eq!(body(&mark), refused_run(40, 1, 0), "{behind:?}");
+    }
+}
+
+#[test]
+fn m_106_reading_62_at_the_end_of_the_file_that_is_the_recordings_length() {
+    let recording = format!("{END} #");
+    assert_eq!(recording.len(), 22);
+    assert_eq!(bare(&recording), refused_run(40, 22, 0));
+    let full = format!("{END}{}#", " ".repeat(65_536 - 21));
+    assert_eq!(full.len(), 65_536);
+    assert_eq!(bare(&full), refused_run(40, 65_536, 0));
+}
+
+/// Digits too large for a time, with the number of the digit that takes them
+/// there. 2^64 - 1 is 18446744073709551615.
+const TOO_LARGE: [(&str, usize); 12] = [
+    ("18446744073709551616", 20),
+    ("18446744073709551619", 20),
+    ("18446744073709551620", 20),
+    ("20000000000000000000", 20),
+    ("36893488147419103232", 20),
+    ("99999999999999999999", 20),
+    ("184467440737095516160", 20),
+    ("184467440737095516200", 20),
+    ("184467440737095516150", 21),
+    ("1844674407370955161599", 21),
+    ("100000000000000000000", 21),
+    ("1000000000000000000000000000000", 21),
+];
+
+#[test]
+fn m_106_reading_63_a_time_too_large_is_41_at_the_digit_that_takes_it_there() {
+    assert_eq!(mark_after_5("#18446744073709551615"), (ACCEPTED, 2));
+    for (digits, digit) in TOO_LARGE {
+        let mark = format!("#{digits}");
+        assert_eq!(mark_after_5(&mark), refused_run(41, 3 + digit, 1), "{mark}");
+        assert_eq!(body(&mark), refused_run(41, digit, 0), "{mark}");
+    }
+    let nines = format!("#{}", "9".repeat(100));
+    assert_eq!(mark_after_5(&nines), refused_run(41, 23, 1));
+}
+
+#[test]
+fn m_106_reading_63_leading_zeros_shift_it() {
+    let mark = "#00018446744073709551616";
+    assert_eq!(mark_after_5(mark), refused_run(41, 26, 1));
+    for zeros in [1, 2, 20, 21, 100, 60_000] {
+        let behind = |digits: &str| format!("#{}{digits}", "0".repeat(zeros));
+        for (digits, digit) in TOO_LARGE {
+            let expected = refused_run(41, 3 + zeros + digit, 1);
+            let answer = mark_after_5(&behind(digits));
+            assert_eq!(answer, expected, "{zeros} zeros, {digits}");
+        }
+        let most = behind("18446744073709551615");
+        assert_eq!(mark_after_5(&most), (ACCEPTED, 2), "{zeros} zeros");
+        // Zeros alone are a time, too: here one not above the last.
+        assert_eq!(mark_after_5(&behind("")), refused_run(41, 3, 1));
+    }
+}
+
+#[test]
+fn m_106_reading_63_a_mark_may_fill_the_recording() {
+    let length = 65_536 - HEADER.len() - "#5 #".len();
+    let nines = format!("#{}", "9".repeat(length));
+    assert_eq!(mark_after_5(&nines), refused_run(41, 23, 1));
+    let ends = format!("#{}x", "9".repeat(length - 1));
+    assert_eq!(mark_after_5(&ends), refused_run(40, 3 + length, 1));
+}
+
+#[test]
+fn m_106_reading_64_a_time_not_above_the_last_is_41_at_the_word() {
+    for mark in ["#5", "#4", "#0", "#05", "#0005", "#00000000000000000000004"] {
+        assert_eq!(mark_after_5(mark), refused_run(41, 3, 1), "{mark}");
+    }
+    assert_eq!(body("#10 #9"), refused_run(41, 4, 1));
+    for last_digit in [4, 5] {
+        let marks = format!("#18446744073709551615 #1844674407370955161{last_digit}");
+        assert_eq!(body(&marks), refused_run(41, 22, 1), "{marks}");
+    }
+}
+
+#[test]
+fn m_106_reading_64_a_bad_change_is_refused_at_the_word() {
+    for (word, number) in [
+        ("1", 40),
+        ("q!", 40),
+        ("$end", 40),
+        ("nonsense", 40),
+        ("5#", 40),
+        ("1?", 43),
+        ("1!x", 43),
+        ("1#5", 43),
+    ] {
+        let step = format!("#5 {word}");
+        assert_eq!(body(&step), refused_run(number, 3, 0), "{word}");
+    }
+    assert_eq!(body("  1! #5"), refused_run(42, 2, 0));
+    assert_eq!(body("#5 1! x!"), refused_run(44, 6, 0));
 }
 
 #[test]

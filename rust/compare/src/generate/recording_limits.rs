@@ -8,7 +8,7 @@ use second_opinion::Table;
 /// A fault, or something that is just no fault, put into the words of a recording.
 type Spoil = fn(&mut Random, &Table, &mut Recording);
 
-const SPOILS: [(usize, Spoil); 15] = [
+const SPOILS: [(usize, Spoil); 16] = [
     (4, strange_command),
     (3, strange_end),
     (6, variable_shape),
@@ -18,6 +18,7 @@ const SPOILS: [(usize, Spoil); 15] = [
     (2, many_variables),
     (4, cut_off),
     (6, strange_word),
+    (8, spoilt_mark),
     (8, strange_time),
     (3, early_change),
     (5, undeclared_id),
@@ -216,7 +217,7 @@ fn cut_off(random: &mut Random, _: &Table, recording: &mut Recording) {
 /// 40: a word that is no mark and no change, or one that looks like none.
 fn strange_word(random: &mut Random, _: &Table, recording: &mut Recording) {
     let words =
-        "1 0 x X z Z # #1x #-1 #+1 #x ## 2! b! bx! B! r! R! u! y! Y! -! /! [! {! b1010 r1.5 \
+        "1 0 x X z Z # #1x #-1 #+1 #x ## ##5 2! b! bx! B! r! R! u! y! Y! -! /! [! {! b1010 r1.5 \
         $dumpvars $end $comment ! 11 xx ZZ #1.5 #1#";
     let strange = word(random.pick_word(words));
     insert(random, recording, strange);
@@ -226,6 +227,32 @@ fn strange_word(random: &mut Random, _: &Table, recording: &mut Recording) {
 fn insert(random: &mut Random, recording: &mut Recording, word: Word) {
     let place = random.below(recording.body.len() + 1);
     recording.body.insert(place, word);
+}
+
+/// 40 at a byte of a mark, also before 41: one or two bytes that are no digits among its own, or no
+/// digit at all.
+fn spoilt_mark(random: &mut Random, _: &Table, recording: &mut Recording) {
+    let mut mark = any_mark(random);
+    if random.once_in(4) {
+        mark.truncate(1);
+    } else {
+        for _ in 0..random.within(1..=2) {
+            let any = random.within(1..=mark.len());
+            let place = random.pick(&[1, any, any, mark.len()]);
+            mark.insert(place, random.pick(b"#x/:-+.!"));
+        }
+    }
+    if random.once_in(3) {
+        recording.body.push(mark);
+    } else {
+        insert(random, recording, mark);
+    }
+}
+
+/// A mark with one of the times below, often behind zeros.
+fn any_mark(random: &mut Random) -> Word {
+    let zeros = "0".repeat(random.pick(&[0, 0, 0, 1, 3, 21]));
+    word(&format!("#{zeros}{}", random.pick_word(TIMES)))
 }
 
 /// Times about 2^64, its tenth and its multiples, and small ones.
@@ -241,7 +268,7 @@ fn strange_time(random: &mut Random, _: &Table, recording: &mut Recording) {
     let marks: Vec<usize> = (0..recording.body.len())
         .filter(|place| recording.body[*place].starts_with(b"#"))
         .collect();
-    let mark = word(&format!("#{}", random.pick_word(TIMES)));
+    let mark = any_mark(random);
     match random.below(4) {
         0 if !marks.is_empty() => recording.body[random.pick(&marks)] = mark,
         1 if marks.len() > 1 => {
