@@ -119,7 +119,9 @@ enum {
 
 /* Judges a recording by a table.
  * unknown, the choice for variables whose names the table lacks: 0, CCSL_UNKNOWN_REFUSED, is the default, so that a misspelt name is told.
- * The place of 38 is the offset of the variable's `$var`; no step was read then, and the words are the start words.
+ * The place of 38 is the offset of the variable's `$var`; no step was read then, and the words are the start words. The place of 40 and 41 is
+ * the offset of the byte that spoils a mark: the first that is no digit, the byte after a `#` that stands alone, or the digit that takes the
+ * time above 2^64 - 1. That of a time not above the last, and of a word that is no change, is the offset of the word.
  * answer, 5 numbers: CCSL_ACCEPTED, 0, 0; or CCSL_VIOLATED, the table line, the recorded time; or CCSL_REFUSED, the limit's number, the
  * place; then the number of accepted steps and the number of constraints, both 0 where the table was refused.
  * words, 128 words: the configuration after the accepted steps, all 0 where the table was refused.

@@ -226,7 +226,8 @@ impl Table {
     }
 }
 
-/// A limit that the input breaks: its number, and the place at which it does.
+/// A limit that the input breaks: its number, and the place at which it does. `docs/refusals.md` says
+/// what the place of each number is; of a mark that a byte spoils (40 and 41) it is that byte's offset.
 #[derive(Clone, Copy, Debug, PartialEq, Eq, Hash)]
 pub struct Refusal {
     pub number: u64,

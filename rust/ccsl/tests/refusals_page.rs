@@ -1,5 +1,6 @@
 //! The page of refusals for trainees, `docs/refusals.md`: each number has its heading, each block
-//! on it the answer that it states, and each number of a run its folder in `examples/refusals`.
+//! on it the answer that it states, each mark of its tables the place, and each number of a run its
+//! folder in `examples/refusals`.
 //!
 //! A block is fenced with ```` ```step ````, ```` ```same-place ```` or ```` ```order ````, one item a
 //! line:
@@ -11,7 +12,9 @@
 //! - `ticks 0 1`
 //! - `answer accepted`, `violated 1`, `same`, `different`, `listed 2 1` or `refused 51 1`
 
-use ccsl::{Clocks, Configuration, Delays, Kind, Record, SamePlace, StepAnswer, KINDS, PAIRS};
+use ccsl::{
+    Clocks, Configuration, Delays, Kind, Record, Report, SamePlace, StepAnswer, KINDS, PAIRS,
+};
 use std::fs;
 use std::path::{Path, PathBuf};
 
@@ -256,6 +259,56 @@ fn every_number_of_a_call_has_a_block() {
             "docs/refusals.md has no block for {number}"
         );
     }
+}
+
+/// The marks of the page's tables, each with the number of its heading and the place that is stated.
+fn marks(page: &str) -> Vec<(u64, &str, u64)> {
+    let (mut heading, mut found) = (0, Vec::new());
+    for (at, line) in page.lines().enumerate() {
+        if let Some(title) = line.strip_prefix("## ") {
+            heading = number(title.split(' ').next().unwrap_or(""), at);
+        } else if let Some((mark, rest)) = line
+            .strip_prefix("| `#")
+            .and_then(|row| row.split_once("` | "))
+        {
+            let place = rest.split(" | ").next().unwrap_or("");
+            found.push((heading, mark, number(place, at)));
+        }
+    }
+    found
+}
+
+/// The answer where this stands behind the `#` of a mark at the offset 300, which closes a step.
+fn mark_at_300(mark: &str, behind: &str) -> Report {
+    let header = "$enddefinitions $end #0";
+    let recording = format!("{header:300}#{mark}{behind}");
+    ccsl::run(b"", recording.as_bytes())
+}
+
+#[test]
+fn every_mark_has_the_place_that_is_stated() {
+    let page = page();
+    let marks = marks(&page);
+    for heading in [40, 41] {
+        assert!(
+            marks.iter().any(|(number, _, _)| *number == heading),
+            "docs/refusals.md has no mark for {heading}"
+        );
+    }
+    for (number, mark, place) in marks {
+        for behind in ["", " #9", "\n"] {
+            let refused = format!("refused {number} {place}\nsteps 1\nconfig\n");
+            assert_eq!(mark_at_300(mark, behind).to_string(), refused, "#{mark}");
+        }
+    }
+}
+
+#[test]
+fn marks_are_read() {
+    let page =
+        "## 40 a\n| Mark | Place | It |\n|---|--:|---|\n| `#12ms` | 303 | the `m` |\n## 41\n\
+        | `#` | 1 | b |\n";
+    assert_eq!(marks(page), [(40, "12ms", 303), (41, "", 1)]);
 }
 
 /// What a file in the folder of a number has.
