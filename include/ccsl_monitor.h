@@ -2,7 +2,8 @@
  * contract (crates/monitor_c). Numbers come in and go out in lists, which the caller owns.
  *
  * Every call but ccsl_layout returns a status. CCSL_DONE: the answer was written, and the other lists that the call writes. Any other: a list
- * that was handed in has not the shape that the call asks for, or the choice of a run is none of those below, and nothing was written.
+ * that was handed in has not the shape that the call asks for, or the choice for unknown names is none of those below, and nothing was
+ * written.
  *
  * The library keeps nothing between calls and has no state of its own, so that calls may run at once from several threads. Two calls at
  * once may read the same list; one that a call writes belongs to that call alone.
@@ -11,7 +12,7 @@
  * elements. Of a list that is longer than the call needs, the rest is left alone.
  *
  * A table's text and a recording may hold any bytes, and a list any numbers: what breaks a limit is refused, with the limit's number and
- * place (docs/refusals.md). Only a record's kind and the choice of a run have to be among those below.
+ * place (docs/refusals.md). Only a record's kind and the choice for unknown names have to be among those below.
  *
  * What lists hold has changed once: see CCSL_LAYOUT. */
 #ifndef CCSL_MONITOR_H
@@ -34,13 +35,14 @@ enum {
     CCSL_RECORDS_RAGGED = 5, /* the calls on records: the numbers of `records` do not come in eights */
     CCSL_KIND_UNKNOWN = 6,   /* the same calls: a record's kind is above CCSL_DEFERRED */
     CCSL_ORDER_SHORT = 7,    /* ccsl_definition_order: `order` has fewer than CCSL_CLOCKS numbers */
-    CCSL_CHOICE_INVALID = 8  /* ccsl_run: `unknown` is neither of the two choices */
+    CCSL_CHOICE_INVALID = 8, /* ccsl_run and ccsl_read_recording: `unknown` is neither of the two choices */
+    CCSL_STEPS_SHORT = 9     /* ccsl_read_recording: `times`, `marks` or `ticks` has fewer numbers than the recording has bytes */
 };
 
 /* The first number of every answer. */
 enum {
     CCSL_ACCEPTED = 0, /* of ccsl_read_table: the table was read; of ccsl_start_words: started; of ccsl_same_place: the same place; of
-                        * ccsl_definition_order: listed */
+                        * ccsl_definition_order: listed; of ccsl_read_recording: read to its end */
     CCSL_VIOLATED = 1, /* of ccsl_same_place: different places */
     CCSL_REFUSED = 2
 };
@@ -56,7 +58,8 @@ enum {
     CCSL_START_ANSWER = 3,
     CCSL_STEP_ANSWER = 3,
     CCSL_PLACE_ANSWER = 3,
-    CCSL_ORDER_ANSWER = 4
+    CCSL_ORDER_ANSWER = 4,
+    CCSL_STEPS_ANSWER = 4
 };
 
 /* The kind of a record. A record is eight numbers: its kind; the numbers of the clocks c, a and b; the number n of an await; the table line;
@@ -113,7 +116,7 @@ uint32_t ccsl_layout(void);
 
 /* What becomes of a variable of the recording whose name the table lacks. */
 enum {
-    CCSL_UNKNOWN_REFUSED = 0, /* the run is refused, with 38 */
+    CCSL_UNKNOWN_REFUSED = 0, /* the run, or the reading, is refused, with 38 */
     CCSL_UNKNOWN_IGNORED = 1  /* the variable is ignored */
 };
 
@@ -196,6 +199,24 @@ uint32_t ccsl_definition_order(const uint64_t *records, size_t records_len,
                                uint32_t named, uint32_t clocks,
                                uint64_t *answer, size_t answer_len,
                                uint64_t *order, size_t order_len);
+
+/* Reads a recording by the names of a table, and judges nothing: the steps that reading gives, also those behind one that a run finds
+ * violated, and how reading ended. A step is given once it is closed, by the next word that opens with `#` or by the end of the recording; one
+ * in which a word is refused is not.
+ * unknown, the choice for variables whose names the table lacks, as in ccsl_run.
+ * answer, 4 numbers: CCSL_ACCEPTED, 0, 0; or CCSL_REFUSED, the limit's number, the place: of the table (10 to 20 and 22), with no step, or of the
+ * recording (30 to 44); then the number of steps.
+ * times, marks and ticks, as many numbers each as there are steps, in the order of the recording: the recorded time; the offset of the step's
+ * mark; the tick set, in which named clock k ticks where bit k is 1, as ccsl_step takes it. Each list has to have as many numbers as the
+ * recording has bytes, which the steps never exceed; those behind the steps are left alone.
+ * CCSL_ANSWER_SHORT, CCSL_CHOICE_INVALID, CCSL_STEPS_SHORT. */
+uint32_t ccsl_read_recording(const uint8_t *table, size_t table_len,
+                             const uint8_t *recording, size_t recording_len,
+                             uint32_t unknown,
+                             uint64_t *answer, size_t answer_len,
+                             uint64_t *times, size_t times_len,
+                             uint64_t *marks, size_t marks_len,
+                             uint32_t *ticks, size_t ticks_len);
 
 #ifdef __cplusplus
 }

@@ -1,7 +1,7 @@
 -- The checks of each call, in their order, and what it writes where all are passed. Assumes nothing.
 use mathlib.Core.Path.{_≡_, refl, sym, ap, _∙_}
 use mathlib.Core.Bool.{true, false}
-use mathlib.Core.List.{List, []}
+use mathlib.Core.List.{List, [], _∷_}
 use Prim.Native.Nat.{ℕ, _%_, _≤_, _<_}
 use native.Mathlib.Omega.{arith}
 use borrow.Author.Tests.{lt-ltb, le-ltb, eq-eqb, ne-eqb}
@@ -10,14 +10,19 @@ use lib.ListN.{length}
 use lib.Seq.{sets}
 use Rattle.constraint.specs.SamePlace.{samePlaceOf}
 use Rattle.constraint.specs.declared.Configuration.{Configuration}
+use Rattle.table.specs.Reader as table
 use Rattle.table.specs.Reader.{readTable}
 use Rattle.run.specs.Run.{runOf}
 use Rattle.judging.specs.Single.{StepSaid, accepted, violated, refused}
 use Rattle.order.specs.Order.{orderOf}
+use Rattle.reading.specs.Recorded as recorded
+use Rattle.reading.specs.Recorded.{recordedInto}
+use Rattle.reading.specs.declared.RecordingRead.{RecordingRead}
 use Rattle.monitor_c.specs.declared.AnswerNumbers.{AnswerNumbers}
-use Rattle.monitor_c.specs.Calls.{written, answerShort, wordsShort, recordsShort, namesShort, recordsRagged, kindUnknown, Left, left, runLeft, runInto, tableLeft, readLeft, readInto, onRecords, stepWords, answerLeft, placeLeft, placeInto, orderShort, orderLeft, orderedLeft, orderInto, choiceInvalid}
-use Rattle.monitor_c.specs.Numbers.{unknownOf, clocksOf, recordsOf, kindsKnown, configurationOf, wordNumbers, ofStep, answerAnd}
-use Rattle.monitor_c.proofs.ListLaws.{sets-append, sets-written}
+use Rattle.reading.specs.Written.{written}
+use Rattle.monitor_c.specs.Calls.{answerShort, wordsShort, recordsShort, namesShort, recordsRagged, kindUnknown, Left, left, runLeft, runInto, tableLeft, readLeft, readInto, onRecords, stepWords, answerLeft, placeLeft, placeInto, orderShort, orderLeft, orderedLeft, orderInto, choiceInvalid, done, stepsShort, stepsLeft, recordedLeft, recordingInto}
+use Rattle.monitor_c.specs.Numbers.{unknownOf, clocksOf, recordsOf, kindsKnown, configurationOf, wordNumbers, ofTable, ofStep, answerAnd}
+use Rattle.reading.proofs.StoreLaws.{sets-append, sets-written}
 
 -- an answer of three numbers, with others stored behind it
 pub stored-behind : (t : AnswerNumbers) (ns out : List ℕ) → length (answerAnd t ns) ≤ length out → sets (written (answerAnd t []) out) 3 ns ≡ written (answerAnd t ns) out
@@ -148,3 +153,26 @@ module _ (ns : List ℕ) (named clocks : ℕ) (out os : List ℕ) where
   pub order-done : 4 ≤ length out → length ns % 8 ≡ 0 → kindsKnown ns ≡ true → 32 ≤ length os → orderedLeft (orderOf (clocksOf named clocks) (recordsOf ns)) out os ≡ orderInto ns named clocks out os
   unfolding orderInto
   order-done a r k o = rw (le-ltb (length out) 4 a, eq-eqb (length ns % 8) 0 r, k, le-ltb (length os) 32 o) refl
+
+-- ---- ccsl_read_recording
+
+module _ (t r : List ℕ) (u : ℕ) (out ts ms fs : List ℕ) where
+  pub recording-answer-short : length out < 4 → stepsLeft answerShort out ts ms fs ≡ recordingInto t r u out ts ms fs
+  unfolding recordingInto
+  recording-answer-short a = rw (lt-ltb (length out) 4 a) refl
+
+  pub recording-choice-invalid : 4 ≤ length out → 1 < u → stepsLeft choiceInvalid out ts ms fs ≡ recordingInto t r u out ts ms fs
+  unfolding recordingInto
+  recording-choice-invalid a c = rw (le-ltb (length out) 4 a, lt-ltb 1 u c) refl
+
+  pub recording-done : 4 ≤ length out → u ≤ 1 → recordedLeft (recordedInto t r (unknownOf u) ts ms fs) out ≡ recordingInto t r u out ts ms fs
+  unfolding recordingInto
+  recording-done a c = rw (le-ltb (length out) 4 a, le-ltb 1 u c) refl
+
+-- what a reading left, as its answer tells
+module _ (q : RecordingRead) (out ts ms fs : List ℕ) where
+  pub recording-steps-short : q .room ≡ false → stepsLeft stepsShort out ts ms fs ≡ recordedLeft (recorded.left q ts ms fs) out
+  recording-steps-short e = rw e
+
+  pub recording-read : q .room ≡ true → stepsLeft done (written (answerAnd (ofTable (table.said (q .outcome))) (q .steps ∷ [])) out) ts ms fs ≡ recordedLeft (recorded.left q ts ms fs) out
+  recording-read e = rw e

@@ -2,31 +2,22 @@
 use mathlib.Core.Path.{_≡_, refl, sym, ap, _∙_}
 use mathlib.Core.List.{List, [], _∷_, _++_, map, append-nil}
 use Prim.Native.Nat.{ℕ, suc, _+_, _*_, _≤_, _<_}
-use native.Mathlib.Nat.{zero-add}
 use native.Mathlib.Numerals.{add-one}
 use native.Mathlib.Omega.{arith}
 use lib.IntN.{ℤ, pos}
 use lib.ListN.{length, drop, take, getD, set, take-append-drop}
-use lib.Seq.{sets, sets-eq, set-out, length-take-le, length-sets, drop-length}
+use lib.Seq.{sets, set-out, length-take-le, length-sets, drop-length}
 use Rattle.text.proofs.Bytes.{drop-next}
 use Rattle.constraint.specs.Pairs.{paired}
 use Rattle.constraint.specs.declared.Constraint.{Constraint}
 use Rattle.constraint.specs.declared.Word.{Word}
-use Rattle.monitor_c.specs.Calls.{written}
+use Rattle.reading.proofs.StoreLaws.{sets-append, sets-written}
 use Rattle.monitor_c.specs.Numbers.{recordNumbers, twos, pairs}
-
--- stored from the first place on, elements for which there is room are written
-pub sets-written : {A : Type 0} (vs xs : List A) → length vs ≤ length xs → sets xs 0 vs ≡ written vs xs
-sets-written vs xs room = sets-eq vs xs 0 (omega (arith, room)) ∙ rw (zero-add (length vs)) refl
 
 -- past the end nothing is stored
 pub sets-past : {A : Type 0} (vs xs : List A) (i : ℕ) → length xs ≤ i → sets xs i vs ≡ xs
 sets-past [] xs i past = refl
 sets-past (v ∷ vs) xs i past = rw (set-out xs i v past) (sets-past vs xs (suc i) (omega (arith, past)))
-
-pub sets-append : {A : Type 0} (us vs xs : List A) (i : ℕ) → sets xs i (us ++ vs) ≡ sets (sets xs i us) (i + length us) vs
-sets-append [] vs xs i = ap (λ (k : ℕ). sets xs k vs) (omega arith)
-sets-append (u ∷ us) vs xs i = sets-append us vs (set xs i u) (suc i) ∙ ap (λ (k : ℕ). sets (sets (set xs i u) (suc i) us) k vs) (omega arith)
 
 -- all places are stored
 pub sets-all : {A : Type 0} (vs xs : List A) → length xs ≤ length vs → sets xs 0 vs ≡ take (length xs) vs

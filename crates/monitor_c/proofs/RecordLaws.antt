@@ -23,7 +23,8 @@ use Rattle.order.specs.Rests.{order, circle}
 use Rattle.judging.specs.Single.{stepOf}
 use Rattle.monitor_c.specs.Numbers.{atMost, recordOf, recordsOf, rows, rowAt}
 use Rattle.text.proofs.Bytes.{drop-next}
-use Rattle.monitor_c.proofs.ListLaws.{sets-written, sets-all}
+use Rattle.reading.proofs.StoreLaws.{sets-written}
+use Rattle.monitor_c.proofs.ListLaws.{sets-all}
 
 -- fewer than eight numbers are no record
 few : (ns : List ℕ) → length ns < 8 → rows ns ≡ []

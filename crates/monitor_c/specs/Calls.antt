@@ -1,10 +1,10 @@
 -- What each call returns and writes: `include/ccsl_monitor.h`, function by function. Assumes nothing.
 use mathlib.Core.Bool.{Bool, not, cond}
-use mathlib.Core.List.{List, [], _∷_, _++_}
+use mathlib.Core.List.{List, [], _∷_}
 use Prim.Native.Nat.{ℕ, _%_}
 use lib.Dec.{eqb, ltb}
 use lib.IntN.{ℤ}
-use lib.ListN.{length, drop}
+use lib.ListN.{length}
 use Rattle.constraint.specs.SamePlace as place
 use Rattle.constraint.specs.SamePlace.{samePlaceOf}
 use Rattle.constraint.specs.declared.Configuration.{Configuration}
@@ -14,12 +14,10 @@ use Rattle.run.specs.Run as run
 use Rattle.judging.specs.Single as single
 use Rattle.lent.specs.Start as start
 use Rattle.order.specs.Order as order
+use Rattle.reading.specs.Recorded as reading
+use Rattle.reading.specs.Written.{written}
 use Rattle.monitor_c.specs.Numbers.{unknownIgnored, unknownOf, clocksOf, recordsOf, kindsKnown, recordNumbers, nameNumbers, configurationOf, wordNumbers, ofRun, ofTable, ofStart, ofStep, ofPlace, ofOrder, answerAnd}
 use Rattle.monitor_c.specs.declared.AnswerNumbers.{AnswerNumbers}
-
--- numbers, in the place of the first of a list; the rest is left alone
-abbrev pub written : {A : Type 0} → List A → List A → List A
-written vs xs = vs ++ drop (length vs) xs
 
 -- ---- ccsl_layout
 
@@ -55,6 +53,9 @@ orderShort = 7
 
 abbrev pub choiceInvalid : ℕ
 choiceInvalid = 8
+
+abbrev pub stepsShort : ℕ
+stepsShort = 9
 
 -- the numbers of `records` do not come in rows
 abbrev pub ragged : List ℕ → Bool
@@ -186,3 +187,28 @@ orderInto ns named clocks out os =
     (cond (not (kindsKnown ns)) (orderLeft kindUnknown out os)
     (cond (short os 32) (orderLeft orderShort out os)
     (orderedLeft (order.orderOf (clocksOf named clocks) (recordsOf ns)) out os))))
+
+-- ---- ccsl_read_recording
+
+pub record StepsLeft : Type 0 where
+  pub status : ℕ
+  pub answer : List ℕ
+  pub times : List ℕ
+  pub marks : List ℕ
+  pub ticks : List ℕ
+
+abbrev pub stepsLeft : (status : ℕ) → (answer times marks ticks : List ℕ) → StepsLeft
+stepsLeft s out ts ms fs = record { status = s; answer = out; times = ts; marks = ms; ticks = fs }
+
+-- behind the answer: how many steps were read. Where a list has fewer places than the recording has bytes, nothing is written
+abbrev pub recordedLeft : reading.Left → (answer : List ℕ) → StepsLeft
+recordedLeft l out =
+    cond (l .room)
+    (stepsLeft done (written (answerAnd (ofTable (l .said)) (l .count ∷ [])) out) (l .times) (l .marks) (l .ticks))
+    (stepsLeft stepsShort out (l .times) (l .marks) (l .ticks))
+
+unfoldable pub recordingInto : (table recording : List ℕ) → (unknown : ℕ) → (answer times marks ticks : List ℕ) → StepsLeft
+recordingInto t r u out ts ms fs =
+    cond (short out 4) (stepsLeft answerShort out ts ms fs)
+    (cond (ltb unknownIgnored u) (stepsLeft choiceInvalid out ts ms fs)
+    (recordedLeft (reading.recordedInto t r (unknownOf u) ts ms fs) out))

@@ -19,7 +19,7 @@ use records::clocks_of;
 use records::kinds_known;
 use records::records_of;
 ghost use mathlib.Core.Path.{_≡_};
-ghost use Rattle.monitor_c.specs.Calls.{layout, left, runInto, tableLeft, readInto, startInto, stepInto, answerLeft, placeInto, orderLeft, orderInto};
+ghost use Rattle.monitor_c.specs.Calls.{layout, left, runInto, tableLeft, readInto, startInto, stepInto, answerLeft, placeInto, orderLeft, orderInto, stepsLeft, recordingInto};
 
 // What every call returns, in the order of the checks.
 pub const DONE: u32 = 0;
@@ -40,7 +40,9 @@ pub const ORDER_SHORT: u32 = 7;
 
 pub const CHOICE_INVALID: u32 = 8;
 
-// What becomes of a variable whose name the table lacks: `unknown` of ccsl_run.
+pub const STEPS_SHORT: u32 = 9;
+
+// What becomes of a variable whose name the table lacks: `unknown` of ccsl_run and ccsl_read_recording.
 pub const UNKNOWN_REFUSED: u32 = 0;
 
 pub const UNKNOWN_IGNORED: u32 = 1;
@@ -278,5 +280,34 @@ pub extern "C" fn ccsl_definition_order(
     put_answer(answer, check_numbers(outcome));
     answer[3] = ordered.count as u64;
     put_order(order, listed);
+    DONE
+}
+
+// Reads a recording by the names of a table: the steps that reading gives, with nothing judged, and how it ended.
+#[no_mangle]
+pub extern "C" fn ccsl_read_recording(
+    table: &[u8],
+    recording: &[u8],
+    unknown: u32,
+    answer: &mut [u64],
+    times: &mut [u64],
+    marks: &mut [u64],
+    ticks: &mut [u32],
+) -> u32
+    ensures { λ r. ⌜ stepsLeft r (now (answer .exit)) (now (times .exit)) (now (marks .exit)) (now (ticks .exit)) ≡ recordingInto (now (table .entry)) (now (recording .entry)) unknown (now (answer .entry)) (now (times .entry)) (now (marks .entry)) (now (ticks .entry)) ⌝ }
+{
+    if answer.len() < 4 {
+        return ANSWER_SHORT;
+    }
+    if UNKNOWN_IGNORED < unknown {
+        return CHOICE_INVALID;
+    }
+    let read = reading::read_recording(table, recording, unknown_of(unknown), times, marks, ticks);
+    if !read.room {
+        return STEPS_SHORT;
+    }
+    let outcome = read.outcome;
+    put_answer(answer, check_numbers(outcome));
+    answer[3] = read.steps as u64;
     DONE
 }

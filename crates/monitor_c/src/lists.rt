@@ -13,7 +13,7 @@ ghost use Prim.Native.Nat.{_+_, _≤_};
 ghost use lib.ListN.{length};
 ghost use lib.Seq.{sets};
 ghost use Rattle.constraint.specs.Pairs.{paired};
-ghost use Rattle.monitor_c.specs.Calls.{written};
+ghost use Rattle.reading.specs.Written.{written};
 ghost use Rattle.monitor_c.specs.Numbers.{answerAnd, wordNumbers, recordNumbers, nameNumbers, configurationOf};
 
 // Writes an answer.

@@ -103,10 +103,10 @@ module _ (named : ℕ) (rs : List Constraint) (b : Progress) (o : Step) where
 
 module _ (t : List ℕ) (q : TableRead) (e : table.told q ≡ table.readTable t) where
   module _ (o : q .outcome ≡ Passed) where
-    is-read : table.readTable t .said ≡ table.read
+    pub is-read : table.readTable t .said ≡ table.read
     is-read = ap (λ (x : table.Told). x .said) (sym e) ∙ ap table.said o
 
-    is-table : table.readTable t .table ≡ q .table
+    pub is-table : table.readTable t .table ≡ q .table
     is-table = ap (λ (x : table.Told). x .table) (sym e)
 
     pub table-passes : table.Passes (q .table)

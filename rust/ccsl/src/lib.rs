@@ -281,6 +281,23 @@ pub struct Report {
     pub configuration: Configuration,
 }
 
+/// A step of a recording as it was read: the time and the offset of its mark, and its tick set, in
+/// which named clock k ticks where bit k is 1.
+#[derive(Clone, Copy, Debug, PartialEq, Eq, Hash)]
+pub struct RecordedStep {
+    pub time: Time,
+    pub mark: u64,
+    pub ticks: u32,
+}
+
+/// What reading a recording gives, with nothing judged: the steps that were closed, and the refusal
+/// with which reading ended, where it did not come to the end.
+#[derive(Clone, Debug, PartialEq, Eq)]
+pub struct Reading {
+    pub steps: Vec<RecordedStep>,
+    pub refusal: Option<Refusal>,
+}
+
 /// How a single step ended.
 #[derive(Clone, Copy, Debug, PartialEq, Eq)]
 pub enum StepAnswer {
@@ -356,6 +373,38 @@ pub fn run_with(table: &[u8], recording: &[u8], unknown: UnknownNames) -> Report
         steps: Steps(steps),
         constraints: constraints as usize,
         configuration,
+    }
+}
+
+/// Reads a recording by the names of a table, with this choice for variables whose names it lacks, and
+/// judges nothing: also steps behind one that a run finds violated are read. A refused table gives its
+/// refusal, and no step.
+pub fn read_recording(table: &[u8], recording: &[u8], unknown: UnknownNames) -> Reading {
+    let mut answer = [0; raw::STEPS_ANSWER];
+    let mut times = vec![0; recording.len()];
+    let mut marks = vec![0; recording.len()];
+    let mut ticks = vec![0; recording.len()];
+    done(raw::read_recording(
+        table,
+        recording,
+        unknown as u32,
+        &mut answer,
+        &mut times,
+        &mut marks,
+        &mut ticks,
+    ));
+    let [outcome, number, place, count] = answer;
+    let steps = times.into_iter().zip(marks).zip(ticks);
+    Reading {
+        steps: steps
+            .take(count as usize)
+            .map(|((time, mark), ticks)| RecordedStep {
+                time: Time(time),
+                mark,
+                ticks,
+            })
+            .collect(),
+        refusal: (outcome != raw::ACCEPTED).then_some(Refusal { number, place }),
     }
 }
 

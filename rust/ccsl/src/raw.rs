@@ -76,6 +76,22 @@ mod header {
             order: *mut u64,
             order_len: usize,
         ) -> u32;
+
+        pub fn ccsl_read_recording(
+            table: *const u8,
+            table_len: usize,
+            recording: *const u8,
+            recording_len: usize,
+            unknown: u32,
+            answer: *mut u64,
+            answer_len: usize,
+            times: *mut u64,
+            times_len: usize,
+            marks: *mut u64,
+            marks_len: usize,
+            ticks: *mut u32,
+            ticks_len: usize,
+        ) -> u32;
     }
 }
 
@@ -95,12 +111,15 @@ pub const RECORDS_RAGGED: u32 = 5;
 pub const KIND_UNKNOWN: u32 = 6;
 /// [`definition_order`]: `order` has fewer than 32 numbers.
 pub const ORDER_SHORT: u32 = 7;
-/// [`run`]: `unknown` is neither of the two choices.
+/// [`run`] and [`read_recording`]: `unknown` is neither of the two choices.
 pub const CHOICE_INVALID: u32 = 8;
+/// [`read_recording`]: `times`, `marks` or `ticks` has fewer numbers than the recording has bytes.
+pub const STEPS_SHORT: u32 = 9;
 
-/// [`run`]: a variable whose name the table lacks is refused, with 38. The default.
+/// [`run`] and [`read_recording`]: a variable whose name the table lacks is refused, with 38. The
+/// default.
 pub const UNKNOWN_REFUSED: u32 = 0;
-/// [`run`]: such a variable is ignored.
+/// [`run`] and [`read_recording`]: such a variable is ignored.
 pub const UNKNOWN_IGNORED: u32 = 1;
 
 /// The first number of an answer: accepted, read, started, listed, or the same place.
@@ -122,6 +141,8 @@ pub const STEP_ANSWER: usize = 3;
 pub const PLACE_ANSWER: usize = 3;
 /// Numbers that [`definition_order`] writes into `answer`.
 pub const ORDER_ANSWER: usize = 4;
+/// Numbers that [`read_recording`] writes into `answer`.
+pub const STEPS_ANSWER: usize = 4;
 /// Numbers of a record: kind, c, a, b, n, line, numbers, count.
 pub const RECORD: usize = 8;
 /// Records that [`read_table`] writes.
@@ -278,6 +299,36 @@ pub fn definition_order(
             answer.len(),
             order.as_mut_ptr(),
             order.len(),
+        )
+    }
+}
+
+/// `ccsl_read_recording`.
+pub fn read_recording(
+    table: &[u8],
+    recording: &[u8],
+    unknown: u32,
+    answer: &mut [u64],
+    times: &mut [u64],
+    marks: &mut [u64],
+    ticks: &mut [u32],
+) -> u32 {
+    // SAFETY: as in `run`.
+    unsafe {
+        header::ccsl_read_recording(
+            table.as_ptr(),
+            table.len(),
+            recording.as_ptr(),
+            recording.len(),
+            unknown,
+            answer.as_mut_ptr(),
+            answer.len(),
+            times.as_mut_ptr(),
+            times.len(),
+            marks.as_mut_ptr(),
+            marks.len(),
+            ticks.as_mut_ptr(),
+            ticks.len(),
         )
     }
 }

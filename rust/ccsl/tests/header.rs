@@ -82,6 +82,28 @@ fn order(records: &[u64], answer: usize, order: usize) -> Called {
     (status, answer)
 }
 
+/// The reading of a recording with lists of these lengths for its steps.
+fn recorded(recording: &[u8], unknown: u32, answer: usize, steps: [usize; 3]) -> Called {
+    let mut answer = vec![0; answer];
+    let [mut times, mut marks] = [steps[0], steps[1]].map(|length| vec![0; length]);
+    let mut ticks = vec![0; steps[2]];
+    let status = raw::read_recording(
+        TABLE,
+        recording,
+        unknown,
+        &mut answer,
+        &mut times,
+        &mut marks,
+        &mut ticks,
+    );
+    (status, answer)
+}
+
+/// The same with lists that are long enough.
+fn reading(recording: &[u8], unknown: u32, answer: usize) -> Called {
+    recorded(recording, unknown, answer, [LONG; 3])
+}
+
 /// What the library's answers say of each constant, some of them in several ways.
 fn measured() -> Vec<(&'static str, u64)> {
     let mut all = statuses();
@@ -104,12 +126,14 @@ fn statuses() -> Vec<(&'static str, u64)> {
         ("CCSL_DONE", status(step(&one, 1, LONG, LONG))),
         ("CCSL_DONE", status(place(&one, LONG, &zeros, &zeros))),
         ("CCSL_DONE", status(order(&one, LONG, LONG))),
+        ("CCSL_DONE", status(reading(RECORDING, 0, LONG))),
         ("CCSL_ANSWER_SHORT", status(run(RECORDING, 0, LONG))),
         ("CCSL_ANSWER_SHORT", status(read(TABLE, 0, LONG, LONG).0)),
         ("CCSL_ANSWER_SHORT", status(start(&one, 0, LONG))),
         ("CCSL_ANSWER_SHORT", status(step(&one, 1, 0, LONG))),
         ("CCSL_ANSWER_SHORT", status(place(&one, 0, &zeros, &zeros))),
         ("CCSL_ANSWER_SHORT", status(order(&one, 0, LONG))),
+        ("CCSL_ANSWER_SHORT", status(reading(RECORDING, 0, 0))),
         ("CCSL_WORDS_SHORT", status(run(RECORDING, LONG, 0))),
         ("CCSL_WORDS_SHORT", status(start(&one, LONG, 0))),
         ("CCSL_WORDS_SHORT", status(step(&one, 1, LONG, 0))),
@@ -143,6 +167,19 @@ fn statuses() -> Vec<(&'static str, u64)> {
             "CCSL_CHOICE_INVALID",
             status(run_with(b"", u32::MAX, LONG, LONG)),
         ),
+        ("CCSL_CHOICE_INVALID", status(reading(RECORDING, 2, LONG))),
+        (
+            "CCSL_STEPS_SHORT",
+            status(recorded(RECORDING, 0, LONG, [0, LONG, LONG])),
+        ),
+        (
+            "CCSL_STEPS_SHORT",
+            status(recorded(RECORDING, 0, LONG, [LONG, 0, LONG])),
+        ),
+        (
+            "CCSL_STEPS_SHORT",
+            status(recorded(RECORDING, 0, LONG, [LONG, LONG, 0])),
+        ),
     ]
 }
 
@@ -162,6 +199,7 @@ fn outcomes() -> Vec<(&'static str, u64)> {
         ("CCSL_ACCEPTED", first(step(&one, 0b01, LONG, LONG))),
         ("CCSL_ACCEPTED", first(place(&one, LONG, &zero, &zero))),
         ("CCSL_ACCEPTED", first(order(&one, LONG, LONG))),
+        ("CCSL_ACCEPTED", first(reading(&late, 0, LONG))),
         ("CCSL_VIOLATED", first(run(&late, LONG, LONG))),
         ("CCSL_VIOLATED", first(step(&one, 0b10, LONG, LONG))),
         ("CCSL_VIOLATED", first(place(&one, LONG, &zero, &ahead))),
@@ -171,6 +209,7 @@ fn outcomes() -> Vec<(&'static str, u64)> {
         ("CCSL_REFUSED", first(step(&one, 0b100, LONG, LONG))),
         ("CCSL_REFUSED", first(place(&one, LONG, &zero, &below))),
         ("CCSL_REFUSED", first(order(&twice, LONG, LONG))),
+        ("CCSL_REFUSED", first(reading(b"", 0, LONG))),
     ]
 }
 
@@ -211,6 +250,7 @@ fn sizes() -> Vec<(&'static str, u64)> {
             least(|n| place(&one, n, &zeros, &zeros)),
         ),
         ("CCSL_ORDER_ANSWER", least(|n| order(&one, n, LONG))),
+        ("CCSL_STEPS_ANSWER", least(|n| reading(RECORDING, 0, n))),
     ];
     sizes.map(|(name, size)| (name, size as u64)).to_vec()
 }
@@ -507,6 +547,7 @@ fn the_header_is_read() {
         ("CCSL_RECORDS_RAGGED", 5),
         ("CCSL_ORDER_SHORT", 7),
         ("CCSL_CHOICE_INVALID", 8),
+        ("CCSL_STEPS_SHORT", 9),
         ("CCSL_UNKNOWN_REFUSED", 0),
         ("CCSL_UNKNOWN_IGNORED", 1),
         ("CCSL_REFUSED", 2),
@@ -597,14 +638,20 @@ fn every_other_number_of_a_constant_is_told() {
 fn other_prototypes_are_told() {
     let right = header();
     let wrong = [
-        ("const uint8_t *recording", "uint8_t *recording"),
+        (
+            "\n                  const uint8_t *recording",
+            "\n                  uint8_t *recording",
+        ),
         ("const int64_t *first", "const uint64_t *first"),
         ("ccsl_layout(void)", "ccsl_layout(uint32_t layout)"),
         ("uint32_t ccsl_layout(", "uint64_t ccsl_layout("),
         ("uint32_t ccsl_layout(void);\n", ""),
         ("                   uint32_t ticks,\n", ""),
-        ("                  uint32_t unknown,\n", ""),
-        ("uint32_t unknown,", "uint8_t unknown,"),
+        ("\n                  uint32_t unknown,", ""),
+        (
+            "\n                  uint32_t unknown,",
+            "\n                  uint8_t unknown,",
+        ),
         (
             "\n                   uint32_t named, uint32_t clocks,",
             "\n                   uint32_t clocks, uint32_t named,",
@@ -622,6 +669,14 @@ fn other_prototypes_are_told() {
         (
             "uint64_t *order, size_t order_len",
             "uint32_t *order, size_t order_len",
+        ),
+        (
+            "uint32_t *ticks, size_t ticks_len",
+            "uint64_t *ticks, size_t ticks_len",
+        ),
+        (
+            "uint64_t *marks, size_t marks_len,",
+            "uint64_t *times, size_t times_len,",
         ),
     ];
     for (old, new) in wrong {

@@ -7,7 +7,8 @@ use lib.ListN.{length, replicate, take}
 use lib.Seq.{sets}
 use Rattle.constraint.specs.Lists.{empty, slots}
 use Rattle.order.specs.Order.{orderOf, orderSaid}
-use Rattle.monitor_c.specs.Calls.{written, done, orderLeft, orderedLeft}
+use Rattle.reading.specs.Written.{written}
+use Rattle.monitor_c.specs.Calls.{done, orderLeft, orderedLeft}
 use Rattle.monitor_c.specs.Numbers.{clocksOf, recordsOf, ofOrder, answerAnd}
 use Rattle.monitor_c.proofs.CallLaws.{stored-behind, order-answer-short, order-ragged, order-unknown, order-short, order-done}
 use Rattle.monitor_c.proofs.RecordLaws.{order-lent}

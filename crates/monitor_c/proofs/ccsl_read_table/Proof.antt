@@ -8,7 +8,8 @@ use lib.Seq.{sets, lt-length-sets}
 use Rattle.grammar.specs.Building.{clocksIn}
 use Rattle.table.specs.Reader.{said}
 use Rattle.table.proofs.TableVerdict.{most-clocks}
-use Rattle.monitor_c.specs.Calls.{written, done, tableLeft, readLeft}
+use Rattle.reading.specs.Written.{written}
+use Rattle.monitor_c.specs.Calls.{done, tableLeft, readLeft}
 use Rattle.monitor_c.specs.Numbers.{ofTable, answerAnd, recordNumbers}
 use Rattle.monitor_c.proofs.CallLaws.{stored-behind, read-answer-short, read-records-short, read-names-short, read-done}
 use borrow.Author.Needs.{needs}

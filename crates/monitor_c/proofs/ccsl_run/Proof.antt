@@ -4,7 +4,8 @@ use mathlib.Core.List.{List, [], _∷_}
 use Prim.Native.Nat.{ℕ}
 use lib.Seq.{sets}
 use Rattle.run.specs.Run.{said, runOf}
-use Rattle.monitor_c.specs.Calls.{written, done, left, runLeft}
+use Rattle.reading.specs.Written.{written}
+use Rattle.monitor_c.specs.Calls.{done, left, runLeft}
 use Rattle.monitor_c.specs.Numbers.{ofRun, answerAnd}
 use Rattle.monitor_c.proofs.CallLaws.{stored-behind, run-answer-short, run-words-short, run-choice-invalid, run-done}
 use borrow.Author.Needs.{needs}

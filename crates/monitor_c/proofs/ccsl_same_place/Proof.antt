@@ -8,7 +8,8 @@ use lib.Seq.{sets}
 use Rattle.constraint.specs.Lists.{empty}
 use Rattle.constraint.specs.SamePlace.{samePlaceOf}
 use Rattle.lent.specs.Lent.{lent}
-use Rattle.monitor_c.specs.Calls.{written, done, answerLeft, placeLeft}
+use Rattle.reading.specs.Written.{written}
+use Rattle.monitor_c.specs.Calls.{done, answerLeft, placeLeft}
 use Rattle.monitor_c.specs.Numbers.{clocksOf, recordsOf, configurationOf, answerAnd}
 use Rattle.monitor_c.proofs.CallLaws.{place-answer-short, place-first-short, place-second-short, place-ragged, place-unknown, place-done}
 use Rattle.monitor_c.proofs.RecordLaws.{place-lent}

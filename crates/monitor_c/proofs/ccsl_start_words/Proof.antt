@@ -8,7 +8,8 @@ use lib.Seq.{sets}
 use Rattle.constraint.specs.Lists.{empty}
 use Rattle.lent.specs.Lent.{lent}
 use Rattle.lent.specs.Start.{startOf, startSaid}
-use Rattle.monitor_c.specs.Calls.{written, done, left, startLeft}
+use Rattle.reading.specs.Written.{written}
+use Rattle.monitor_c.specs.Calls.{done, left, startLeft}
 use Rattle.monitor_c.specs.Numbers.{clocksOf, recordsOf, ofStart, answerAnd}
 use Rattle.monitor_c.proofs.CallLaws.{answer-short, words-short, records-ragged, kind-unknown, in-shape}
 use Rattle.monitor_c.proofs.RecordLaws.{start-lent}

@@ -10,7 +10,8 @@ use Rattle.constraint.specs.Lists.{empty}
 use Rattle.lent.specs.Lent.{lent}
 use Rattle.judging.specs.Single.{stepOf, stepSaid}
 use Rattle.judging.specs.declared.Stepped.{Stepped}
-use Rattle.monitor_c.specs.Calls.{written, done, left, stepWords, stepLeft, stepInto}
+use Rattle.reading.specs.Written.{written}
+use Rattle.monitor_c.specs.Calls.{done, left, stepWords, stepLeft, stepInto}
 use Rattle.monitor_c.specs.Numbers.{clocksOf, recordsOf, configurationOf, ofStep, answerAnd}
 use Rattle.monitor_c.proofs.CallLaws.{answer-short, words-short, records-ragged, kind-unknown, in-shape, step-still, step-moved}
 use Rattle.monitor_c.proofs.RecordLaws.{step-lent}

@@ -4,7 +4,7 @@ use native.Mathlib.Omega.{arith}
 use lib.Seq.{lt-length-sets}
 use borrow.Author.Needs.{needs}
 use Rattle.monitor_c.specs.Numbers.{answerAnd}
-use Rattle.monitor_c.proofs.ListLaws.{sets-written}
+use Rattle.reading.proofs.StoreLaws.{sets-written}
 use Rattle.monitor_c.proofs.lists.put_answer.Statement.{statement}
 use Rattle.monitor_c.proofs.lists.put_answer.Tie as tie
 

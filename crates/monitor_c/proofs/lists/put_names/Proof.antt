@@ -10,7 +10,8 @@ use Rattle.text.specs.Split.{span}
 use Rattle.text.specs.declared.Span.{Span}
 use Rattle.constraint.proofs.Walk.{length-mapped}
 use Rattle.monitor_c.specs.Numbers.{nameNumbers}
-use Rattle.monitor_c.proofs.ListLaws.{sets-written, twos-on, length-twos}
+use Rattle.reading.proofs.StoreLaws.{sets-written}
+use Rattle.monitor_c.proofs.ListLaws.{twos-on, length-twos}
 use borrow.Author.Needs.{needs}
 use Rattle.monitor_c.proofs.lists.put_names.Statement.{statement}
 use Rattle.monitor_c.proofs.lists.put_names.Tie as tie

@@ -6,7 +6,8 @@ use Prim.Native.Nat.{ℕ, _≤_, _-_}
 use native.Mathlib.Omega.{arith}
 use lib.ListN.{length, drop, length-set, drop-of-length-le}
 use lib.Seq.{sets}
-use Rattle.monitor_c.proofs.ListLaws.{sets-written, store-on}
+use Rattle.reading.proofs.StoreLaws.{sets-written}
+use Rattle.monitor_c.proofs.ListLaws.{store-on}
 use borrow.Author.Needs.{needs}
 use Rattle.monitor_c.proofs.lists.put_order.Statement.{statement}
 use Rattle.monitor_c.proofs.lists.put_order.Tie as tie

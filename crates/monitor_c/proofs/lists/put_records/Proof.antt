@@ -9,7 +9,8 @@ use lib.Seq.{sets, length-sets}
 use Rattle.constraint.proofs.Walk.{length-mapped}
 use Rattle.constraint.specs.Lists.{empty}
 use Rattle.monitor_c.specs.Numbers.{recordNumbers}
-use Rattle.monitor_c.proofs.ListLaws.{sets-written, records-on, length-records}
+use Rattle.reading.proofs.StoreLaws.{sets-written}
+use Rattle.monitor_c.proofs.ListLaws.{records-on, length-records}
 use borrow.Author.Needs.{needs}
 use Rattle.monitor_c.proofs.lists.put_records.Statement.{statement}
 use Rattle.monitor_c.proofs.lists.put_records.Tie as tie

@@ -15,7 +15,8 @@ use lib.ListN.{length, drop, length-set, drop-of-length-le}
 use lib.Seq.{sets}
 use Rattle.constraint.proofs.Walk.{length-mapped}
 use Rattle.monitor_c.specs.Numbers.{twos, wordNumbers}
-use Rattle.monitor_c.proofs.ListLaws.{sets-written, twos-on, length-twos}
+use Rattle.reading.proofs.StoreLaws.{sets-written}
+use Rattle.monitor_c.proofs.ListLaws.{twos-on, length-twos}
 use borrow.Author.Needs.{needs}
 use Rattle.monitor_c.proofs.lists.put_words.Statement.{statement}
 use Rattle.monitor_c.proofs.lists.put_words.Tie as tie

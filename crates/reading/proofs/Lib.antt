@@ -1,0 +1,4 @@
+pub mod FewSteps
+pub mod FillingLaws
+pub mod RecordedLaws
+pub mod StoreLaws

@@ -1,0 +1,3 @@
+pub mod Filling
+pub mod Recorded
+pub mod Written
