@@ -2,7 +2,7 @@
 
 use ccsl::{Clocks, UnknownNames};
 use second_opinion::{
-    Configuration, Delays, Record, Refusal, Report, SamePlace, StepAnswer, Table, Verdict,
+    Configuration, Delays, Reading, Record, Refusal, Report, SamePlace, StepAnswer, Table, Verdict,
 };
 use std::fmt;
 use std::ops::Range;
@@ -13,6 +13,13 @@ pub enum Case {
     /// The whole run of a recording by a table, with a choice for variables whose names the table
     /// lacks.
     Run {
+        table: Vec<u8>,
+        recording: Vec<u8>,
+        unknown: UnknownNames,
+    },
+    /// The steps of a recording, read by the names of a table, with the same choice and nothing
+    /// judged.
+    Reading {
         table: Vec<u8>,
         recording: Vec<u8>,
         unknown: UnknownNames,
@@ -69,8 +76,30 @@ impl Case {
                 records, clocks, ..
             }
             | Case::Order { records, clocks } => Some((records, *clocks)),
-            Case::Run { .. } | Case::Read { .. } => None,
+            Case::Run { .. } | Case::Reading { .. } | Case::Read { .. } => None,
         }
+    }
+
+    /// The question that is asked behind this one: for the working order, or for the reading.
+    pub fn next(&self) -> Option<Case> {
+        self.order().or_else(|| self.reading())
+    }
+
+    /// The question for the reading of the recording that a run is about.
+    pub fn reading(&self) -> Option<Case> {
+        let Case::Run {
+            table,
+            recording,
+            unknown,
+        } = self
+        else {
+            return None;
+        };
+        Some(Case::Reading {
+            table: table.clone(),
+            recording: recording.clone(),
+            unknown: *unknown,
+        })
     }
 
     /// The question for the working order of the records, or of the table, that another question is
@@ -104,6 +133,7 @@ pub fn table_clocks(table: &Table) -> Clocks {
 #[derive(Clone, Debug, PartialEq, Eq)]
 pub enum Answer {
     Run(Report),
+    Reading(Reading),
     Read(Result<Read, Refusal>),
     Start(Result<Configuration, Refusal>),
     /// The answer and the configuration after the call.
@@ -132,6 +162,10 @@ impl Answer {
                 verdict: Verdict::Refused(refusal),
                 ..
             })
+            | Answer::Reading(Reading {
+                refusal: Some(refusal),
+                ..
+            })
             | Answer::Read(Err(refusal))
             | Answer::Start(Err(refusal))
             | Answer::Step(StepAnswer::Refused(refusal), _)
@@ -150,9 +184,16 @@ impl fmt::Display for Case {
                 recording,
                 unknown,
             } => {
-                writeln!(f, "run\n  unknown names: {unknown:?}")?;
-                write_text(f, "table", table)?;
-                write_text(f, "recording", recording)
+                writeln!(f, "run")?;
+                write_texts(f, table, recording, *unknown)
+            }
+            Case::Reading {
+                table,
+                recording,
+                unknown,
+            } => {
+                writeln!(f, "read_recording")?;
+                write_texts(f, table, recording, *unknown)
             }
             Case::Read { text } => {
                 writeln!(f, "read_table")?;
@@ -200,6 +241,17 @@ impl fmt::Display for Case {
             }
         }
     }
+}
+
+fn write_texts(
+    f: &mut fmt::Formatter<'_>,
+    table: &[u8],
+    recording: &[u8],
+    unknown: UnknownNames,
+) -> fmt::Result {
+    writeln!(f, "  unknown names: {unknown:?}")?;
+    write_text(f, "table", table)?;
+    write_text(f, "recording", recording)
 }
 
 /// The text as a byte string; of a very long one both ends, since the seed and the pair give the

@@ -2,8 +2,8 @@
 //! from documents 01 and 02.
 //!
 //! A pair is one question asked of both, with every part of both answers compared; where it is about
-//! records or a table that is read, their working order is asked, too. Pair `n` of a seed is always
-//! the same question.
+//! records or a table that is read, their working order is asked, too, and where it is a run, the
+//! reading of its recording. Pair `n` of a seed is always the same question.
 
 pub mod apart;
 pub mod case;
@@ -79,7 +79,7 @@ fn compare_by(
                 return Err(Box::new(mismatch(seed, pair, group, &case, one, other)));
             }
             tally.count(&case, &answer);
-            next = case.order();
+            next = case.next();
         }
         tally.count_pair(group);
         progress(&tally);

@@ -4,7 +4,8 @@ use crate::apart;
 use crate::case::{table_clocks, Answer, Case, Read};
 use ccsl::{Clocks, UnknownNames};
 use second_opinion::{
-    Configuration, Delays, Kind, Record, Refusal, Report, SamePlace, StepAnswer, Verdict,
+    Configuration, Delays, Kind, Reading, Record, RecordedStep, Refusal, Report, SamePlace,
+    StepAnswer, Verdict,
 };
 use std::cell::Cell;
 use std::ops::Range;
@@ -53,6 +54,11 @@ pub fn library(case: &Case) -> Answer {
             recording,
             unknown,
         } => Answer::Run(report(ccsl::run_with(table, recording, *unknown))),
+        Case::Reading {
+            table,
+            recording,
+            unknown,
+        } => Answer::Reading(reading(ccsl::read_recording(table, recording, *unknown))),
         Case::Read { text } => Answer::Read(ccsl::read_table(text).map(read).map_err(refusal)),
         Case::Start { records, clocks } => {
             Answer::Start(ccsl::start_words(&to_library(records), *clocks).map_err(refusal))
@@ -99,6 +105,14 @@ pub fn second(case: &Case) -> Answer {
             recording,
             unknown,
         } => Answer::Run(second_opinion::run(table, recording, choice(*unknown))),
+        Case::Reading {
+            table,
+            recording,
+            unknown,
+        } => {
+            let unknown = choice(*unknown);
+            Answer::Reading(second_opinion::read_recording(table, recording, unknown))
+        }
         Case::Read { text } => {
             Answer::Read(second_opinion::read_table(text).map(|table| second_read(text, table)))
         }
@@ -340,6 +354,18 @@ fn report(report: ccsl::Report) -> Report {
         steps: report.steps.0,
         constraints: report.constraints,
         configuration: report.configuration,
+    }
+}
+
+fn reading(reading: ccsl::Reading) -> Reading {
+    let step = |step: ccsl::RecordedStep| RecordedStep {
+        time: step.time.0,
+        mark: step.mark,
+        ticks: step.ticks,
+    };
+    Reading {
+        steps: reading.steps.into_iter().map(step).collect(),
+        refusal: reading.refusal.map(refusal),
     }
 }
 

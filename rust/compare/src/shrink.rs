@@ -38,6 +38,9 @@ fn size(case: &Case) -> usize {
     1000 + match case {
         Case::Run {
             table, recording, ..
+        }
+        | Case::Reading {
+            table, recording, ..
         } => table.len() + recording.len(),
         Case::Read { text } => text.len(),
         _ => 64 * records(case).len(),
@@ -51,12 +54,14 @@ fn shorter(case: &Case, differs: Differs) -> Case {
             table,
             recording,
             unknown,
+        }
+        | Case::Reading {
+            table,
+            recording,
+            unknown,
         } => {
-            let with = |table: &[u8], recording: &[u8]| Case::Run {
-                table: table.to_vec(),
-                recording: recording.to_vec(),
-                unknown: *unknown,
-            };
+            let with =
+                |table: &[u8], recording: &[u8]| with_texts(case, table, recording, *unknown);
             let table = shorter_table(table, &|text| differs(&with(text, recording)));
             let recording = shorter_text(recording, &|text| differs(&with(&table, text)));
             with(&table, &recording)
@@ -72,6 +77,23 @@ fn shorter(case: &Case, differs: Differs) -> Case {
             let rows = fewer(rows(case), &|rows| differs(&with_rows(case, rows)));
             with_rows(case, &rows)
         }
+    }
+}
+
+/// The run or the reading with these texts and this choice.
+fn with_texts(case: &Case, table: &[u8], recording: &[u8], unknown: UnknownNames) -> Case {
+    let (table, recording) = (table.to_vec(), recording.to_vec());
+    match case {
+        Case::Reading { .. } => Case::Reading {
+            table,
+            recording,
+            unknown,
+        },
+        _ => Case::Run {
+            table,
+            recording,
+            unknown,
+        },
     }
 }
 
@@ -94,11 +116,12 @@ fn fewer<T: Clone>(mut list: Vec<T>, wanted: &dyn Fn(&[T]) -> Option<bool>) -> V
     list
 }
 
-/// The text with lines, commands and steps, words and bytes taken out.
+/// The text with lines, variables, commands and steps, words and bytes taken out.
 fn shorter_text(text: &[u8], wanted: &dyn Fn(&[u8]) -> Option<bool>) -> Vec<u8> {
     let mut text = text.to_vec();
     for starts in [
         starts_of_lines,
+        starts_of_variables,
         starts_of_commands,
         starts_of_words,
         |_: &[u8], _: usize| true,
@@ -195,6 +218,12 @@ fn starts_of_words(text: &[u8], at: usize) -> bool {
     text[at - 1].is_ascii_whitespace() && !text[at].is_ascii_whitespace()
 }
 
+/// The starts of variables, whatever looks like a command in them, and of the end of the header.
+fn starts_of_variables(text: &[u8], at: usize) -> bool {
+    let rest = &text[at..];
+    starts_of_words(text, at) && (rest.starts_with(b"$var") || rest.starts_with(b"$enddef"))
+}
+
 fn starts_of_commands(text: &[u8], at: usize) -> bool {
     let rest = &text[at..];
     let is_end = rest
@@ -213,7 +242,9 @@ fn configurations(case: &Case) -> (&Configuration, &Configuration) {
         Case::Start { .. } | Case::Order { .. } => (&[[0, 0]; WORDS], &[[0, 0]; WORDS]),
         Case::Step { words, .. } => (words, words),
         Case::Place { first, second, .. } | Case::Search { first, second, .. } => (first, second),
-        Case::Run { .. } | Case::Read { .. } => unreachable!("texts have no configuration"),
+        Case::Run { .. } | Case::Reading { .. } | Case::Read { .. } => {
+            unreachable!("texts have no configuration")
+        }
     }
 }
 
@@ -269,7 +300,7 @@ fn with_rows(case: &Case, rows: &[Row]) -> Case {
             *second = moved(second, |row| row.2);
             *records = rows.iter().map(|row| row.0).collect();
         }
-        Case::Run { .. } | Case::Read { .. } => {}
+        Case::Run { .. } | Case::Reading { .. } | Case::Read { .. } => {}
     }
     case
 }
@@ -318,23 +349,12 @@ fn simplifications(case: &Case) -> Vec<Case> {
             table,
             recording,
             unknown,
-        } => {
-            let with = |table, recording, unknown| Case::Run {
-                table,
-                recording,
-                unknown,
-            };
-            found.push(with(
-                table.clone(),
-                recording.clone(),
-                UnknownNames::Refused,
-            ));
-            let renamed = with_short_names(table, recording);
-            found.extend(renamed.map(|(table, recording)| with(table, recording, *unknown)));
-            // The variables that fewer names leave are ignored, until they are taken out.
-            let fewer = without_line(table).into_iter().chain(flattened(table));
-            found.extend(fewer.map(|table| with(table, recording.clone(), UnknownNames::Ignored)));
         }
+        | Case::Reading {
+            table,
+            recording,
+            unknown,
+        } => found.extend(simpler_texts(case, table, recording, *unknown)),
         Case::Read { text } => {
             let read = |text| Case::Read { text };
             found.extend(with_short_names(text, b"").map(|(text, _)| read(text)));
@@ -342,6 +362,17 @@ fn simplifications(case: &Case) -> Vec<Case> {
         }
         Case::Start { .. } | Case::Order { .. } => {}
     }
+    found
+}
+
+/// The run or the reading with the default choice, shorter names or a simpler table.
+fn simpler_texts(case: &Case, table: &[u8], recording: &[u8], unknown: UnknownNames) -> Vec<Case> {
+    let mut found = vec![with_texts(case, table, recording, UnknownNames::Refused)];
+    let renamed = with_short_names(table, recording);
+    found.extend(renamed.map(|(table, recording)| with_texts(case, &table, &recording, unknown)));
+    // The variables that fewer names leave are ignored, until they are taken out.
+    let fewer = without_line(table).into_iter().chain(flattened(table));
+    found.extend(fewer.map(|table| with_texts(case, &table, recording, UnknownNames::Ignored)));
     found
 }
 
@@ -455,7 +486,7 @@ fn with_clocks(case: &Case, new: Clocks) -> Case {
         | Case::Place { clocks, .. }
         | Case::Search { clocks, .. }
         | Case::Order { clocks, .. } => *clocks = new,
-        Case::Run { .. } | Case::Read { .. } => {}
+        Case::Run { .. } | Case::Reading { .. } | Case::Read { .. } => {}
     }
     case
 }
@@ -649,6 +680,17 @@ mod tests {
                 commands.each_ref().map(|command| command.as_bytes())
             );
         }
+    }
+
+    #[test]
+    fn a_variable_is_taken_out_whatever_its_id_looks_like() {
+        let text = b"$var event 1 # a $end $var event 1 $ b $end $enddefinitions $end #0 x";
+        let wanted = |text: &[u8]| {
+            let ends = text.ends_with(b"$enddefinitions $end #0 x");
+            let words = text.split(u8::is_ascii_whitespace).count();
+            Some(ends && [4, 10, 16].contains(&words))
+        };
+        assert_eq!(shorter_text(text, &wanted), b"$enddefinitions $end #0 x");
     }
 
     #[test]

@@ -25,6 +25,8 @@ pub struct Tally {
     steps: u64,
     /// Accepted steps of the longest run that was accepted whole.
     longest: u64,
+    /// Steps of all readings together.
+    steps_read: u64,
     /// Working orders that are not the order of the records.
     moved: u64,
     nested: Nested,
@@ -175,6 +177,7 @@ impl Tally {
                     self.longest = self.longest.max(report.steps);
                 }
             }
+            Answer::Reading(reading) => self.steps_read += reading.steps.len() as u64,
             Answer::Order(Ok(order)) if !order.is_sorted() => self.moved += 1,
             _ => {}
         }
@@ -203,6 +206,11 @@ impl Tally {
     /// Accepted steps of the longest run that was accepted whole.
     pub fn longest(&self) -> u64 {
         self.longest
+    }
+
+    /// Accepted steps of all runs, and steps of all readings.
+    pub fn steps(&self) -> [u64; 2] {
+        [self.steps, self.steps_read]
     }
 
     /// What came up with implicit clocks.
@@ -237,6 +245,10 @@ fn words_for(answer: &Answer) -> &'static str {
             Verdict::Violated { .. } => "run violated",
             Verdict::Refused(_) => "run refused",
         },
+        Answer::Reading(reading) => match reading.refusal {
+            None => "recording read",
+            Some(_) => "recording refused",
+        },
         Answer::Read(Ok(_)) => "table read",
         Answer::Read(Err(_)) => "table refused",
         Answer::Start(Ok(_)) => "records started",
@@ -266,6 +278,7 @@ impl fmt::Display for Tally {
         for (words, count) in [
             ("steps of runs", self.steps),
             ("longest accepted run", self.longest),
+            ("steps of readings", self.steps_read),
             ("not in record order", self.moved),
         ] {
             writeln!(f, "  {words:<20} {count:>9}")?;

@@ -25,6 +25,8 @@ fn mixed_questions_agree_and_meet_every_refusal_number() {
         "run accepted",
         "run violated",
         "run refused",
+        "recording read",
+        "recording refused",
         "table read",
         "table refused",
         "records started",
@@ -84,7 +86,7 @@ fn tables_agree() {
         assert!(tally.nested().tables >= nested, "{tally}");
         assert!(tally.delayed().tables >= delayed, "{tally}");
         assert!(
-            tally.refusals(22) >= 60 || group != Group::TableLimits,
+            tally.refusals(22) >= 90 || group != Group::TableLimits,
             "{tally}"
         );
     }
@@ -116,7 +118,7 @@ fn long_runs_agree() {
 fn recordings_at_the_limits_agree() {
     let tally = agree(8, 2000, Group::RecordingLimits);
     assert!(
-        tally.refusals(37) >= 10 && tally.refusals(38) >= 150,
+        tally.refusals(37) >= 20 && tally.refusals(38) >= 300,
         "{tally}"
     );
     agree(9, 12, Group::RecordingLength);
@@ -228,6 +230,22 @@ fn the_order_of_every_question_on_records_is_asked() {
         let orders = tally.answers("order listed") + tally.answers("order refused");
         assert_eq!((tally.pairs(), orders), (500, 500), "{tally}");
         assert!(tally.moved() >= 5 && tally.refusals(21) >= 20, "{tally}");
+    }
+}
+
+#[test]
+fn the_reading_of_every_run_is_asked() {
+    for (group, pairs) in [
+        (Group::ShortRun, 500),
+        (Group::MediumRun, 50),
+        (Group::RecordingLimits, 500),
+        (Group::DamagedRecording, 500),
+    ] {
+        let tally = agree(17, pairs, group);
+        let readings = tally.answers("recording read") + tally.answers("recording refused");
+        assert_eq!((tally.pairs(), readings), (pairs, pairs), "{tally}");
+        let [of_runs, of_readings] = tally.steps();
+        assert!(of_readings > of_runs, "{tally}");
     }
 }
 

@@ -1,6 +1,9 @@
 //! The random questions have delays in every way that matters.
 
+mod common;
+
 use ccsl::Clocks;
+use common::{count, Seen};
 use compare::case::{Answer, Case};
 use compare::generate::recordings::{recording, Plan, Recording};
 use compare::generate::tables::{self, lists_in, Size};
@@ -11,15 +14,7 @@ use second_opinion::{
     judge, read_table, start_words, step, Configuration, Delays, Kind, Record, Refusal, StepAnswer,
     Table,
 };
-use std::collections::BTreeMap;
 use std::ops::Range;
-
-/// What came up, by words for it.
-type Seen = BTreeMap<String, u64>;
-
-fn count(seen: &mut Seen, words: &str, is_there: bool) {
-    *seen.entry(words.to_string()).or_default() += u64::from(is_there);
-}
 
 #[track_caller]
 fn assert_all(seen: &Seen, least: u64) {

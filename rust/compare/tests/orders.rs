@@ -1,11 +1,13 @@
 //! The random questions for a working order have every shape that matters.
 
+mod common;
+
+use common::{count, Seen};
 use compare::case::{Answer, Case};
 use compare::generate::{self, Group};
 use compare::monitors::{defines, operands, second};
 use compare::random::Random;
 use second_opinion::{Record, Refusal};
-use std::collections::BTreeMap;
 
 /// The records of a question, and by record the set of those that define its operands and of all to
 /// which chains of operands lead from it. Bit n of a set is the record at index n.
@@ -71,13 +73,6 @@ impl Shape<'_> {
         list.windows(2)
             .all(|two| self.below[two[1] - 1] >> (two[0] - 1) & 1 == 1)
     }
-}
-
-/// What came up, by words for it.
-type Seen = BTreeMap<String, u64>;
-
-fn count(seen: &mut Seen, words: &str, is_there: bool) {
-    *seen.entry(words.to_string()).or_default() += u64::from(is_there);
 }
 
 /// Of a question with a circle, where the lowest record on one is at `lowest`.

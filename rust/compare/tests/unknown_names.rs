@@ -1,19 +1,14 @@
 //! The random runs have names that the table lacks, and names that it has, in every way that matters.
 
+mod common;
+
 use ccsl::UnknownNames;
+use common::{count, Seen};
 use compare::case::{Answer, Case};
 use compare::generate::{self, Group};
 use compare::monitors::second;
 use compare::random::Random;
 use second_opinion::{read_table, Refusal, Report, Verdict};
-use std::collections::BTreeMap;
-
-/// What came up, by words for it.
-type Seen = BTreeMap<String, u64>;
-
-fn count(seen: &mut Seen, words: &str, is_there: bool) {
-    *seen.entry(words.to_string()).or_default() += u64::from(is_there);
-}
 
 /// A run, and the second monitor's reports with both choices.
 struct Ran {

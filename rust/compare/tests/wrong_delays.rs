@@ -8,10 +8,9 @@ use compare::generate::Group;
 use compare::monitors::{defines, library, second, Monitor};
 use compare::{compare_group, Mismatch};
 use second_opinion::{
-    judge, read_table, start_word, Configuration, Kind, Pair, Record, Refusal, Report, SamePlace,
-    StepAnswer, Table, Verdict,
+    judge, read_table, start_word, Configuration, Kind, Pair, Reading, Record, RecordedStep,
+    Refusal, Report, SamePlace, StepAnswer, Table, Verdict,
 };
-use std::collections::HashMap;
 use std::ops::Range;
 
 /// A delay in a step: whether its operands tick, its pair, and its list.
@@ -201,8 +200,8 @@ impl Rule {
         Ok(after)
     }
 
-    /// A whole run, of a recording that is not refused.
-    fn run(&self, table: &Table, recording: &[u8]) -> Report {
+    /// A whole run of a recording with these steps.
+    fn run(&self, table: &Table, steps: &[RecordedStep]) -> Report {
         let mut configuration = [[0, 0]; second_opinion::WORDS];
         for (pair, record) in configuration.iter_mut().zip(&table.records) {
             *pair = start_word(record);
@@ -213,12 +212,12 @@ impl Rule {
             constraints: table.records.len(),
             configuration,
         };
-        for (time, set) in steps(&table.names, recording) {
-            match self.step(&table.records, table.named, &report.configuration, set) {
+        for RecordedStep { time, ticks, .. } in steps {
+            match self.step(&table.records, table.named, &report.configuration, *ticks) {
                 Ok(after) => report.configuration = after,
                 Err(place) => {
                     let line = table.records[place].line;
-                    report.verdict = Verdict::Violated { line, time };
+                    report.verdict = Verdict::Violated { line, time: *time };
                     break;
                 }
             }
@@ -243,47 +242,16 @@ impl Rule {
                 Ok(after) => Answer::Step(StepAnswer::Accepted, after),
                 Err(place) => Answer::Step(StepAnswer::Violated(place as u64 + 1), *words),
             },
-            Case::Run {
-                table, recording, ..
-            } => {
+            Case::Run { table, .. } => {
                 let table = read_table(table).expect("a table that is not refused");
-                Answer::Run(self.run(&table, recording))
+                match case.reading().as_ref().map(second) {
+                    Some(Answer::Reading(reading)) => Answer::Run(self.run(&table, &reading.steps)),
+                    other => panic!("{other:?}"),
+                }
             }
             _ => answer,
         }
     }
-}
-
-/// The times and tick sets of a recording, up to a word that is no mark and no change.
-fn steps(names: &[String], recording: &[u8]) -> Vec<(u64, u32)> {
-    let text = String::from_utf8_lossy(recording);
-    let mut words = text.split_ascii_whitespace();
-    let mut clocks = HashMap::new();
-    while let Some(command) = words.next() {
-        match command {
-            "$var" => {
-                let [_, _, id, name, _] = [(); 5].map(|()| words.next().unwrap_or(""));
-                let clock = names.iter().position(|known| known == name);
-                clocks.extend(clock.map(|clock| (id, clock)));
-            }
-            "$enddefinitions" => break,
-            _ => drop(words.find(|word| *word == "$end")),
-        }
-    }
-    let mut steps: Vec<(u64, u32)> = Vec::new();
-    for word in words.skip(1) {
-        match word.strip_prefix('#').map(str::parse) {
-            Some(Ok(time)) => steps.push((time, 0)),
-            Some(Err(_)) => break,
-            None => {
-                let clock = word.get(1..).and_then(|id| clocks.get(id));
-                if let (Some((_, set)), Some(clock)) = (steps.last_mut(), clock) {
-                    *set |= 1 << clock;
-                }
-            }
-        }
-    }
-    steps
 }
 
 /// What is found when a wrong monitor is compared with another, by questions of a group.
@@ -355,7 +323,9 @@ fn every_wrong_rule_is_found_by_a_run_of_one_line() {
 /// A monitor that reads another table, or runs by it, of the same length.
 fn with_lists(case: &Case, change: fn(&mut [u8], &[Range<usize>])) -> Answer {
     let mut case = case.clone();
-    if let Case::Read { text } | Case::Run { table: text, .. } = &mut case {
+    if let Case::Read { text } | Case::Run { table: text, .. } | Case::Reading { table: text, .. } =
+        &mut case
+    {
         for list in lists_in(text) {
             change(text, &list);
         }
@@ -403,7 +373,9 @@ fn is_out_of_range(text: &[u8], list: &[Range<usize>]) -> bool {
 /// The text of a table that is read or run.
 fn text_of(case: &Case) -> &[u8] {
     match case {
-        Case::Read { text } | Case::Run { table: text, .. } => text,
+        Case::Read { text } | Case::Run { table: text, .. } | Case::Reading { table: text, .. } => {
+            text
+        }
         _ => panic!("{case}"),
     }
 }
@@ -419,6 +391,10 @@ fn renumbered(answer: Answer, number: u64) -> Answer {
             };
             let verdict = Verdict::Refused(Refusal { number, place });
             Answer::Run(Report { verdict, ..report })
+        }
+        Answer::Reading(reading) => {
+            let refusal = reading.refusal.map(|refusal| Refusal { number, ..refusal });
+            Answer::Reading(Reading { refusal, ..reading })
         }
         answer => answer,
     }

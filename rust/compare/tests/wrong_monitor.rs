@@ -1,11 +1,13 @@
 //! A deliberately wrong monitor is found, and what is reported is small.
 
+mod common;
+
 use ccsl::{Clocks, UnknownNames};
+use common::{found, names_of, words_from};
 use compare::case::{Answer, Case, Read};
-use compare::compare;
 use compare::generate::tables::FORM_WORDS;
 use compare::generate::ticks::all;
-use compare::monitors::{defines, library, operands, second};
+use compare::monitors::{defines, operands, second};
 use compare::Mismatch;
 use second_opinion::{judge, read_table, Kind, Record, Refusal, Report, StepAnswer, Verdict};
 
@@ -438,24 +440,6 @@ fn all_known_by_no_names(case: &Case) -> Answer {
     }
 }
 
-/// The names of a table's clocks.
-fn names_of(table: &[u8]) -> Vec<String> {
-    read_table(table).map_or(Vec::new(), |table| table.names)
-}
-
-/// The words of a recording from an offset on, each with its own.
-fn words_from(recording: &[u8], from: usize) -> impl Iterator<Item = (usize, &[u8])> {
-    let mut at = from;
-    recording[from..]
-        .split(u8::is_ascii_whitespace)
-        .map(move |word| {
-            let start = at;
-            at += word.len() + 1;
-            (start, word)
-        })
-        .filter(|(_, word)| !word.is_empty())
-}
-
 /// A monitor for which letter case does not count in the names of variables.
 fn whatever_the_case(case: &Case) -> Answer {
     let mut case = case.clone();
@@ -684,12 +668,6 @@ fn not_above_at_its_digits(case: &Case) -> Answer {
     other_mark(case, |mark| {
         (mark.number == 41 && mark.at == 0).then_some((41, 1))
     })
-}
-
-/// What is found when a wrong monitor is compared with the library.
-fn found(wrong: fn(&Case) -> Answer) -> Mismatch {
-    *compare(21, 0..20_000, &library, &wrong, &mut |_| {})
-        .expect_err("the wrong monitor was not found")
 }
 
 /// The table, the recording and the choice of a run.

@@ -21,6 +21,8 @@
 //!
 //! Since M-106 a mark is refused at "the first byte that spoils" it.
 //!
+//! One more call reads a recording and gives its steps, with nothing judged.
+//!
 //! The crate is written from the scope paper (document 01) and the change
 //! requests (document 02) alone, and shares nothing with the monitor that it is
 //! held against. Quoted sentences in these comments are the scope paper's, or a
@@ -29,18 +31,22 @@
 #![forbid(unsafe_code)]
 #![warn(missing_docs)]
 
+mod body;
 mod delay;
 mod order;
 mod place;
+mod reading;
 mod recording;
 mod rule;
 mod run;
 mod step;
 mod table;
 
+pub use body::RecordedStep;
 pub use delay::Delays;
 pub use order::definition_order;
 pub use place::{same_place, told_apart, SamePlace};
+pub use reading::{read_recording, Reading};
 pub use recording::UnknownNames;
 pub use rule::{judge, start_word, Kind, Record};
 pub use run::{run, Report, Verdict};

@@ -2,12 +2,9 @@
 
 use std::fmt;
 
-use crate::recording::{self, Variable, Variables, Word, Words};
+use crate::body::{Body, RecordedStep};
 use crate::step::{advance, start, Stop};
 use crate::{read_table, Configuration, Refusal, Table, UnknownNames, WORDS};
-
-/// The values that a change may open with.
-const VALUES: [char; 6] = ['0', '1', 'x', 'X', 'z', 'Z'];
 
 /// "The verdict is `accepted`, or `violated` with table line and time, or
 /// `refused` with number and place."
@@ -103,18 +100,6 @@ fn run_table(table: &Table, recording: &[u8], unknown: UnknownNames) -> Report {
 #[derive(Clone, Copy, Debug, PartialEq, Eq)]
 struct Steps(u64);
 
-/// The recorded time.
-#[derive(Clone, Copy, Debug, PartialEq, Eq, PartialOrd, Ord)]
-struct Time(u64);
-
-/// A step that a mark has started and nothing has judged yet.
-struct OpenStep {
-    time: Time,
-    offset: usize,
-    /// The named clocks that tick; implicit ones "are not recorded" (M-101).
-    ticks: u32,
-}
-
 struct Monitor<'t> {
     table: &'t Table,
     configuration: Configuration,
@@ -130,104 +115,33 @@ impl<'t> Monitor<'t> {
         }
     }
 
-    /// "Reading stops at the first violation or refusal."
+    /// "Reading stops at the first violation or refusal": each step is judged
+    /// before the next is read.
     fn read(&mut self, recording: &[u8], unknown: UnknownNames) -> Result<(), Verdict> {
-        let text = recording::text(recording)?;
-        let mut words = Words::of(text);
-        let variables = recording::read_header(&mut words, &self.table.names, unknown)?;
-        let mut open: Option<OpenStep> = None;
-        for word in words {
-            if let Some(digits) = word.text.strip_prefix('#') {
-                // "The step is judged as soon as a word opening with `#` or the
-                // end is met, before that mark's digits are read."
-                self.judge(open.as_ref())?;
-                let last = open.map(|step| step.time);
-                open = Some(mark(word, digits, last)?);
-            } else {
-                change(word, &variables, open.as_mut())?;
-            }
+        for step in Body::of(recording, &self.table.names, unknown)? {
+            self.judge(step?)?;
         }
-        self.judge(open.as_ref())
+        Ok(())
     }
 
-    /// Judges the open step, if there is one. "In a whole run 51 has the step's
-    /// mark offset as its place."
-    fn judge(&mut self, open: Option<&OpenStep>) -> Result<(), Verdict> {
-        let Some(step) = open else { return Ok(()) };
+    /// Judges a step. "In a whole run 51 has the step's mark offset as its
+    /// place."
+    fn judge(&mut self, step: RecordedStep) -> Result<(), Verdict> {
         let Table { records, named, .. } = self.table;
         let moved = advance(records, *named, &mut self.configuration, step.ticks);
         moved.map_err(|stop| match stop {
             Stop::Fails(index) => Verdict::Violated {
                 line: records[index].line,
-                time: step.time.0,
+                time: step.time,
             },
-            Stop::LeavesItsMillion(_) => Refusal::new(51, step.offset).into(),
+            Stop::LeavesItsMillion(_) => Verdict::Refused(Refusal {
+                number: 51,
+                place: step.mark,
+            }),
         })?;
         self.steps.0 += 1;
         Ok(())
     }
-}
-
-/// "In the body `#` and one or more decimal digits start a step at that time."
-/// Asked in this order: 40 a byte that is no digit, or none at all; 41 a "time
-/// above 2^64 - 1"; 41 one "not above the last". The first two have "the offset
-/// of the first byte that spoils a mark"; "a time not above the last and a bad
-/// change still point at the word" (M-106).
-fn mark(word: Word, digits: &str, last: Option<Time>) -> Result<OpenStep, Refusal> {
-    // `digits` is what stands behind the one byte `#`.
-    let spoilt_by = |number, index: usize| word.refuse_at(number, 1 + index);
-    // "A mark with a byte that is no digit is 40 at the first such byte, however
-    // large its digits" (M-106).
-    if let Some(index) = digits.bytes().position(|byte| !byte.is_ascii_digit()) {
-        return Err(spoilt_by(40, index));
-    }
-    // "for a bare `#`, the byte after it" (M-106), which the recording may lack
-    if digits.is_empty() {
-        return Err(spoilt_by(40, 0));
-    }
-    let time = digits
-        .parse()
-        .map(Time)
-        .map_err(|_| spoilt_by(41, too_large_from(digits)))?;
-    if last.is_some_and(|last| time <= last) {
-        return Err(word.refuse(41));
-    }
-    Ok(OpenStep {
-        time,
-        offset: word.offset,
-        ticks: 0,
-    })
-}
-
-/// The index of "the digit that takes the time above 2^64 - 1" (M-106), in
-/// digits that do: the first with which what is there so far can't be read.
-/// Leading zeros are left aside, and behind them a few digits are enough.
-fn too_large_from(digits: &str) -> usize {
-    let counting = digits.trim_start_matches('0');
-    let is_read = |length: &usize| counting[..*length].parse::<u64>().is_ok();
-    let zeros = digits.len() - counting.len();
-    zeros + (1..=counting.len()).take_while(is_read).count()
-}
-
-/// "Each of 0, 1, x, X, z, Z before an id is now a tick" (document 02, M-100).
-/// Asked in this order: 40 no such change, 42 before any mark, 43 id undeclared,
-/// 44 "a table clock's second tick in a step".
-fn change(word: Word, variables: &Variables, open: Option<&mut OpenStep>) -> Result<(), Refusal> {
-    let id = word
-        .text
-        .strip_prefix(VALUES)
-        .filter(|id| !id.is_empty())
-        .ok_or_else(|| word.refuse(40))?;
-    let step = open.ok_or_else(|| word.refuse(42))?;
-    let variable = variables.get(id).ok_or_else(|| word.refuse(43))?;
-    if let Variable::Clock(clock) = variable {
-        let bit = 1 << clock;
-        if step.ticks & bit != 0 {
-            return Err(word.refuse(44));
-        }
-        step.ticks |= bit;
-    }
-    Ok(())
 }
 
 #[cfg(test)]

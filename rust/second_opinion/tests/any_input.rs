@@ -73,6 +73,9 @@ fn random_words_make_no_run_panic() {
         let report = run_ignoring(table.as_bytes(), recording.as_bytes());
         let whole = run_ignoring(b"a # b", format!("{HEADER}{recording}").as_bytes());
         assert!(report.constraints <= WORDS && whole.constraints == 1);
+        let ignored = UnknownNames::Ignored;
+        let reading = read_recording(table.as_bytes(), recording.as_bytes(), ignored);
+        assert!(reading.steps.len() as u64 >= report.steps);
     }
 }
 

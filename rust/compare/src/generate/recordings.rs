@@ -280,7 +280,8 @@ fn body(random: &mut Random, table: &Table, plan: Plan, recording: &mut Recordin
     }
 }
 
-/// A step that fails, and perhaps something behind it, which is not read.
+/// A step that fails, and perhaps something behind it, which a run does not read: a strange mark, or
+/// steps with any ticks.
 fn violation(
     random: &mut Random,
     set: u32,
@@ -288,11 +289,12 @@ fn violation(
     recording: &mut Recording,
     plain: bool,
 ) {
-    let Some(time) = times.take(random) else {
-        return;
-    };
-    let failing = step_words(random, time, set, recording, plain);
-    recording.body.extend(failing);
+    let mut next = Some(set);
+    while let (Some(set), Some(time)) = (next, times.take(random)) {
+        let step = step_words(random, time, set, recording, plain);
+        recording.body.extend(step);
+        next = random.once_in(3).then(|| ticks::any(random, 32));
+    }
     if random.once_in(2) {
         let words = "# #0 #18446744073709551615 #x #99999999999999999999 ##";
         recording.body.push(word(random.pick_word(words)));
