@@ -1,4 +1,30 @@
-//! What the desk asks of a table beside a run, as text. All answers are the proved library's.
+//! What the desk asks of a table and of a run beside its three lines, as text. All answers are the
+//! proved library's.
+
+mod accepted;
+pub mod account;
+mod asked;
+mod band;
+mod caption;
+mod drawing;
+mod faulty;
+pub mod json;
+pub mod library;
+pub mod limits;
+pub mod lines;
+pub mod names;
+pub mod place;
+mod recording_refused;
+mod refused;
+pub mod report;
+pub mod sentences;
+pub mod show;
+pub mod svg;
+mod table_refused;
+mod violated;
+pub mod why;
+pub mod window;
+pub mod words;
 
 use ccsl::{Record, Refusal};
 
@@ -33,13 +59,8 @@ pub fn order(text: &[u8]) -> Answer {
 
 /// A record of a table by its number, its line's number and that line.
 fn shown(text: &[u8], number: usize, record: &Record) -> String {
-    let mut lines = text.split(|byte| *byte == b'\n');
-    let line = lines.nth(record.line as usize - 1).unwrap_or(b"");
-    format!(
-        "{number} {} {}\n",
-        record.line,
-        String::from_utf8_lossy(line)
-    )
+    let line = record.line;
+    format!("{number} {line} {}\n", lines::text(text, line))
 }
 
 fn refused(refusal: Refusal, below: String) -> Answer {
