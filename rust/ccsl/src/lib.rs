@@ -35,6 +35,18 @@
 //! assert_eq!(monitor.words()[0], [1, 0]);
 //! ```
 //!
+//! The steps to take can be those of a recording, which is read with nothing judged:
+//!
+//! ```
+//! let recording = b"$var event 1 ! a $end $var event 1 % b $end $enddefinitions $end #4 1% #7";
+//! let unknown = ccsl::UnknownNames::Refused;
+//! let reading = ccsl::read_recording(b"a precedes b", recording, unknown);
+//! assert_eq!(reading.refusal, None);
+//! assert_eq!(reading.steps.len(), 2);
+//! let step = reading.steps[0];
+//! assert_eq!((step.time, step.mark, step.ticks), (ccsl::Time(4), 65, 0b10));
+//! ```
+//!
 //! A configuration has two words a constraint. Those of a delay are its pending ticks and how many
 //! numbers of its list are used:
 //!
