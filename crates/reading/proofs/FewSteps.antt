@@ -1,5 +1,5 @@
 -- A recording has no more steps than bytes: a step begins with a word of its own. Assumes nothing.
-use mathlib.Core.Path.{_≡_, refl}
+use mathlib.Core.Path.{_≡_}
 use mathlib.Core.Bool.{Bool, true, false, cond}
 use mathlib.Core.List.{List, [], _∷_}
 use Prim.Native.Nat.{ℕ, suc, _+_, _≤_}
@@ -8,7 +8,6 @@ use borrow.Author.Tests.{le-ltb}
 use lib.Dec.{ltb}
 use lib.ListN.{length, drop, length-drop}
 use Rattle.limit.specs.Checked.{Checked, passed, stopped}
-use Rattle.limit.specs.declared.Limit.{Limit}
 use Rattle.text.specs.Bytes.{inClass, ends}
 use Rattle.text.specs.declared.Class.the-variants.{Parting}
 use Rattle.text.specs.Split.{bytesOf, filled, tokens, grown, span}

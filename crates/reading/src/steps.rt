@@ -7,7 +7,6 @@ use recording::Turn;
 use recording::UnknownNames;
 use recording::Variables;
 ghost use mathlib.Core.Path.{_≡_};
-ghost use lib.ListN.{length};
 ghost use Rattle.recording.specs.Body.{bodySteps, unmarked};
 ghost use Rattle.recording.specs.Header.{words};
 ghost use Rattle.recording.specs.Index.{Indexed, declared};

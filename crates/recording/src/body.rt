@@ -13,7 +13,8 @@ use text::DecimalRead;
 use text::Span;
 ghost use mathlib.Core.Path.{_≡_};
 ghost use Rattle.limit.specs.Checked as k;
-ghost use Rattle.text.specs.Split.{bytesOf};
+ghost use Rattle.text.specs.Split.{bytesOf, NextWord};
+ghost use Rattle.text.specs.declared.Class.the-variants.{Parting};
 ghost use Rattle.recording.specs.Answers as a;
 ghost use Rattle.recording.specs.Body as b;
 ghost use Rattle.recording.specs.Index.{Index, variablesOf};
@@ -144,6 +145,13 @@ fn change<'a>(
     variable(ids, clocks, count, starts, step, at, &word[1..])
 }
 
+// The next word of the body from an offset on. Here the class is known, so that the search for a word is compiled for it.
+fn body_word(recording: &[u8], at: usize) -> Span
+    ensures { λ r. ⌜ NextWord Parting (now (recording .entry)) at r ⌝ }
+{
+    text::next_word(Class::Parting, recording, at)
+}
+
 // The changes of the open step from an offset on, up to the word that closes it.
 pub fn read_changes<'a>(
     recording: &[u8],
@@ -160,7 +168,7 @@ pub fn read_changes<'a>(
     let mut step = opened;
     let mut at = from;
     loop {
-        let word = text::next_word(Class::Parting, recording, at);
+        let word = body_word(recording, at);
         if word.end <= word.start {
             return ChangesRead::End(step);
         }

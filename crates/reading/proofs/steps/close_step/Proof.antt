@@ -4,7 +4,7 @@ use mathlib.Core.List.{List, [], _∷_}
 use native.Mathlib.Nat.{add-zero}
 use native.Mathlib.Omega.{arith}
 use borrow.Author.Tests.{not-true, not-false}
-use lib.ListN.{length, length-set}
+use lib.ListN.{length}
 use Rattle.recording.specs.declared.Step.{Step}
 use Rattle.reading.specs.Filling.{closed}
 use Rattle.reading.proofs.FillingLaws.{closed-none, closed-some}

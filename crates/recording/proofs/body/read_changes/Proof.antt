@@ -30,15 +30,15 @@ abbrev μ-loop : tie.MeasureT-loop
 
 -- a word is left, and the words behind it
 some : (c : tie.Else1 Inv-loop μ-loop) →
-    let w = c .before .before .next-word .result in
+    let w = c .before .before .body-word .result in
     let l = c .before .before .before in
     let r = now (l .before .before .before .before .before .args .recording) in
     words r (l .loop .at) ≡ w ∷ words r (w .end)
-some c = let n = c .before .before .next-word in is-word _ Parting _ (n .result) (n .ensures) (c .if1 .left)
+some c = let n = c .before .before .body-word in is-word _ Parting _ (n .result) (n .ensures) (c .if1 .left)
 
 returns : tie.Need-returns Inv-loop μ-loop
 returns c =
-    let n = c .before .before .next-word in
+    let n = c .before .before .body-word in
     record {
       left = sym (body-done _ _ _ _ (is-last _ Parting _ (n .result) (n .ensures) (c .if1 .taken))) ∙ c .before .before .before .loop .inv .1;
       forward = tt;
@@ -48,7 +48,7 @@ returns-2 : tie.Need-returns-2 Inv-loop μ-loop
 returns-2 c =
     let o = c .before in
     let e = o .before .before in
-    let n = e .before .before .next-word in
+    let n = e .before .before .body-word in
     let i = e .before .before .before .loop .inv in
     let h = within _ _ (n .result) (n .ensures) (e .if1 .left) in
     record {
@@ -61,12 +61,12 @@ module _ (c : tie.After-change Inv-loop μ-loop) where
   opens-not :
       let e = c .before .before .before .before .before in
       let r = now (e .before .before .before .before .before .before .before .before .args .recording) in
-      opensMark (bytesOf r (e .before .before .next-word .result)) ≡ false
+      opensMark (bytesOf r (e .before .before .body-word .result)) ≡ false
   opens-not = let o = c .before .before .before in rw (o .before .part .ensures) at (sym (o .opens-mark .ensures) ∙ c .before .before .if2 .left)
 
   changes :
       let e = c .before .before .before .before .before in
-      let w = e .before .before .next-word .result in
+      let w = e .before .before .body-word .result in
       let l = e .before .before .before in
       let s = l .before .before .before .before .before .args in
       turnAs (c .change .result) ≡ changeTurn (variablesOf (s .count) (now (s .ids)) (now (s .clocks))) (l .loop .step) (w .start) (bytesOf (now (s .recording)) w)
@@ -85,7 +85,7 @@ returns-3 c =
 loop-less : tie.Need-loop-less Inv-loop μ-loop
 loop-less c =
     let e = c .before .before .before .before .before .before .before .before in
-    let n = e .before .before .next-word in
+    let n = e .before .before .body-word in
     let h = within _ _ (n .result) (n .ensures) (e .if1 .left) in
     omega (arith, n .ensures .forward h, h)
 
@@ -94,7 +94,7 @@ loop-again c =
     let t = c .before in
     let k = t .before .before in
     let e = k .before .before .before .before .before in
-    let n = e .before .before .next-word in
+    let n = e .before .before .body-word in
     let i = e .before .before .before .loop .inv in
     (omega (arith, n .ensures .forward (within _ _ (n .result) (n .ensures) (e .if1 .left)), i .0), sym (change-on _ _ _ _ _ _ (some e) (opens-not k) _ (changes k) _ (t .turn2 .given .1)) ∙ i .1)
 
