@@ -50,12 +50,12 @@ pub struct Differs {
     pub account: Report,
 }
 
+/// An account, or how it differs from the run.
+pub type Found<'a> = Result<Account<'a>, Box<Differs>>;
+
 /// Asks the library for the run, for its table and its steps, and for each step by itself, from the
 /// start words on.
-pub fn account<'a>(
-    library: &'a dyn Library,
-    input: Input<'a>,
-) -> Result<Account<'a>, Box<Differs>> {
+pub fn account<'a>(library: &'a dyn Library, input: Input<'a>) -> Found<'a> {
     let report = library.run(input.table, input.recording, input.unknown);
     let reading = library.read_recording(input.table, input.recording, input.unknown);
     let (table, words, ending) = match library.read_table(input.table) {

@@ -69,12 +69,13 @@ fn run(asked: &Run) -> ExitCode {
             file.display()
         );
     }
-    if let (Some(file), Ok(account)) = (asked.svg, account(&Proved, input)) {
-        if let Err(cause) = fs::write(file, svg(&account, &asked.window)) {
+    let found = account(&Proved, input);
+    if let (Some(file), Ok(account)) = (asked.svg, &found) {
+        if let Err(cause) = fs::write(file, svg(account, &asked.window)) {
             return failed(&command, &format!("{}: {cause}", file.display()));
         }
     }
-    let answer = report::answer(&Proved, input, asked.form, &*asked.telling());
+    let answer = report::answer(&found, asked.form, &*asked.telling());
     printed(&command, &answer)
 }
 

@@ -32,15 +32,6 @@ pub fn right_side(table: &Table, record: &Record) -> String {
     text
 }
 
-/// A constraint as a line of the table has it.
-pub fn constraint(table: &Table, record: &Record) -> String {
-    if defines(record.kind) {
-        let defined = clock(table, record.defined);
-        return format!("{defined} clockDef {}", right_side(table, record));
-    }
-    right_side(table, record)
-}
-
 /// The numbers of a delay.
 pub fn delays(record: &Record) -> &[u8] {
     &record.delays.numbers[..record.delays.count.min(8) as usize]

@@ -1,9 +1,8 @@
 //! What a run said, for every command that tells more of it: its three lines as fields of an object, its
 //! exit status, and what is told where the account differs from it.
 
-use crate::account::{account, Account, Differs, Input};
+use crate::account::{Account, Differs, Found};
 use crate::json::Json;
-use crate::library::Library;
 use crate::Answer;
 use ccsl::{Pair, Report, Verdict};
 
@@ -27,14 +26,14 @@ pub trait Telling {
 }
 
 /// What is printed of a run, and the exit status.
-pub fn answer(library: &dyn Library, input: Input, form: Form, telling: &dyn Telling) -> Answer {
-    match account(library, input) {
+pub fn answer(found: &Found, form: Form, telling: &dyn Telling) -> Answer {
+    match found {
         Ok(account) => Answer {
-            text: told(&account, form, telling),
+            text: told(account, form, telling),
             status: status(&account.report),
         },
         Err(found) => Answer {
-            text: differs(&found, form, telling),
+            text: differs(found, form, telling),
             status: DIFFERS,
         },
     }

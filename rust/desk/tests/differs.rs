@@ -7,6 +7,7 @@ use ccsl::{
     UnknownNames, Verdict,
 };
 use common::{input, recording, told};
+use desk::account::account;
 use desk::library::{Library, Proved};
 use desk::report::{answer, Form};
 use desk::why::Why;
@@ -228,7 +229,7 @@ fn the_difference_as_json() {
         recording.as_bytes(),
         UnknownNames::Ignored,
     );
-    let answer = answer(&wrong, input, Form::Json, &Why);
+    let answer = answer(&account(&wrong, input), Form::Json, &Why);
     let expected =
         "{\"verdict\":\"violated\",\"line\":1,\"time\":6,\"steps\":2,\"config\":[[0,0]],\
         \"why\":null,\"differs\":{\"verdict\":\"accepted\",\"steps\":3,\"config\":[[0,0]]}}\n";

@@ -47,12 +47,13 @@ fn options(random: &mut Random) -> Options {
 
 /// Holds every answer about a run to the run.
 fn hold(input: Input, run: &Report, options: Options, what: &str) {
+    let found = account(&Proved, input);
     for telling in [&Why as &dyn Telling, &Show(options)] {
-        let text = answer(&Proved, input, Form::Text, telling);
+        let text = answer(&found, Form::Text, telling);
         let told = &text.text;
         assert!(told.starts_with(&format!("{run}\n")), "{what}: {told}");
         assert_eq!(usize::from(text.status), status(run), "{what}: {told}");
-        let json = answer(&Proved, input, Form::Json, telling);
+        let json = answer(&found, Form::Json, telling);
         assert_eq!(json.status, text.status, "{what}");
         let word = run.verdict.to_string();
         let word = word.split(' ').next().unwrap_or("");
@@ -60,7 +61,7 @@ fn hold(input: Input, run: &Report, options: Options, what: &str) {
         assert!(json.text.starts_with(&opens), "{what}: {}", json.text);
         assert!(is_json(json.text.trim_end()), "{what}: {}", json.text);
     }
-    let account = account(&Proved, input).unwrap_or_else(|differs| panic!("{what}: {differs:?}"));
+    let account = found.unwrap_or_else(|differs| panic!("{what}: {differs:?}"));
     let picture = elements(&svg(&account, &options)).unwrap_or_else(|e| panic!("{what}: {e}"));
     assert_eq!(picture[1].text, run.verdict.to_string(), "{what}");
 }

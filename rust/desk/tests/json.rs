@@ -4,6 +4,7 @@ mod common;
 
 use ccsl::UnknownNames;
 use common::{input, recording};
+use desk::account::account;
 use desk::library::Proved;
 use desk::report::{answer, Form};
 use desk::why::Why;
@@ -14,7 +15,7 @@ fn json(table: &str, recording: &str) -> String {
         recording.as_bytes(),
         UnknownNames::Refused,
     );
-    answer(&Proved, input, Form::Json, &Why).text
+    answer(&account(&Proved, input), Form::Json, &Why).text
 }
 
 /// The pieces of an object one after the other, and the line end behind them.

@@ -48,7 +48,7 @@ pub fn told(library: &dyn Library, table: &str, recording: &str) -> (String, u8)
         recording.as_bytes(),
         UnknownNames::Ignored,
     );
-    let answer = answer(library, input, Form::Text, &Why);
+    let answer = answer(&account(library, input), Form::Text, &Why);
     (answer.text, answer.status)
 }
 
@@ -64,7 +64,7 @@ pub fn why_strict(table: &str, recording: &str) -> String {
         recording.as_bytes(),
         UnknownNames::Refused,
     );
-    answer(&Proved, input, Form::Text, &Why).text
+    answer(&account(&Proved, input), Form::Text, &Why).text
 }
 
 /// A folder of `examples/`, with its table and its recording.
