@@ -40,7 +40,6 @@ fn said(sentence: &str, clock: &str) -> Vec<bool> {
         "?, which was behind, did not tick",
         "waited for ?, which did not tick",
         "ticked and ? did not",
-        "? was due",
     ];
     let mut said = Vec::new();
     if clock != "c" && sentence.contains("neither a nor b ticked") {
