@@ -2,7 +2,8 @@
 #![tactic(auto)]
 
 use recording::UnknownNames;
+use std::io;
 
-fn main() {
-    console::judge_folder(UnknownNames::Ignored);
+fn main(rt: HostRuntime) -> io::Result<()> {
+    console::judge_folder(&rt, UnknownNames::Ignored)
 }

@@ -1,31 +1,46 @@
 // Files. One that cannot be opened, or whose reading fails, counts as empty, and a line on standard error says so.
 ghost use Rattle.io.specs.Counts.{IsPrefixLen};
 
-use libc::STDERR_FILENO;
+use std::fs::File;
+use std::io::Read;
+use std::rt::Files;
+use std::{fmt, io, str};
 
-// Says on standard error what became of a file.
-fn warn(name: &[u8], what: &[u8]) {
-    io::write_all(STDERR_FILENO, b"ccsl: ");
-    io::write_all(STDERR_FILENO, name);
-    io::write_all(STDERR_FILENO, what);
+// The name of a file, as text. A byte that belongs to no character shows as the character for that.
+#[derive(Clone, Copy)]
+struct Name<'a>(&'a [u8]);
+
+impl fmt::Display for Name<'_> {
+    fn fmt<W: fmt::Write>(&self, f: &mut fmt::Formatter<W>) -> fmt::Result {
+        for chunk in self.0.utf8_chunks() {
+            f.write_str(chunk.valid())?;
+            if !chunk.invalid().is_empty() {
+                f.write_str("\u{FFFD}")?;
+            }
+        }
+        Ok(())
+    }
 }
 
-fn reading_failed(name: &[u8]) {
-    warn(name, b": reading failed, and it counts as empty\n");
+// Says on standard error what became of a file. Where that can't be written nothing is left to be told, and the run goes on.
+fn warn(rt: &impl Eprint, name: &[u8], what: &str) {
+    let _ = eprint!(rt; "ccsl: {}{what}\n", Name(name));
+}
+
+fn reading_failed(rt: &impl Eprint, name: &[u8]) {
+    warn(rt, name, ": reading failed, and it counts as empty");
 }
 
 // Fills the buffer from an open file, read by read up to its end, and answers how many bytes it put there: none where a read fails.
-fn read_open(fd: i32, name: &[u8], buffer: &mut [u8]) -> usize
+fn read_open<F: Read>(rt: &impl Eprint, file: &mut F, name: &[u8], buffer: &mut [u8]) -> usize
     ensures { IsPrefixLen result buffer.new }
 {
     let mut n = 0;
     while n < buffer.len() {
-        let got = libc::read(fd, &mut buffer[n..]);
-        if got < 0 {
-            reading_failed(name);
+        let Ok(more) = file.read(&mut buffer[n..]) else {
+            reading_failed(rt, name);
             return 0;
-        }
-        let more = io::count(got, &buffer[n..]);
+        };
         if more == 0 {
             return n;
         }
@@ -34,16 +49,21 @@ fn read_open(fd: i32, name: &[u8], buffer: &mut [u8]) -> usize
     n
 }
 
+// The file of a name. One that is no text names none.
+fn open<R: Files>(rt: &R, name: &[u8]) -> io::Result<R::File> {
+    let Ok(text) = str::from_utf8(name) else {
+        return Err(io::Error::from(io::ErrorKind::InvalidFilename));
+    };
+    File::open(rt, text)
+}
+
 // Fills the buffer from the start of a file, and answers how many bytes it put there.
-pub fn read_file(name: &[u8], buffer: &mut [u8]) -> usize
+pub fn read_file<R: Files + Eprint>(rt: &R, name: &[u8], buffer: &mut [u8]) -> usize
     ensures { IsPrefixLen result buffer.new }
 {
-    let fd = os::open_read(name);
-    if fd < 0 {
-        warn(name, b" can't be opened, and counts as empty\n");
+    let Ok(mut file) = open(rt, name) else {
+        warn(rt, name, " can't be opened, and counts as empty");
         return 0;
-    }
-    let n = read_open(fd, name, buffer);
-    libc::close(fd);
-    n
+    };
+    read_open(rt, &mut file, name, buffer)
 }

@@ -3,15 +3,17 @@ use super::file::read_file;
 use super::print::say;
 use printing::ROOM;
 use recording::UnknownNames;
+use std::io;
+use std::rt::Files;
 
 // Judges the recording `trace.vcd` by the table `table.ccsl`, both in the working directory, and prints three lines: verdict, number of
 // accepted steps, configuration. There is room for one byte more than each limit, so that 10 and 30 are seen.
-pub fn judge_folder(unknown: UnknownNames) {
+pub fn judge_folder<R: Files + Print + Eprint>(rt: &R, unknown: UnknownNames) -> io::Result<()> {
     let mut table = [0u8; 4097];
     let mut recording = [0u8; 65537];
     let mut text = [0u8; ROOM];
-    let n = read_file(b"table.ccsl", &mut table);
-    let m = read_file(b"trace.vcd", &mut recording);
+    let n = read_file(rt, b"table.ccsl", &mut table);
+    let m = read_file(rt, b"trace.vcd", &mut recording);
     let k = printing::run_text(&table[..n], &recording[..m], unknown, &mut text);
-    say(&text[..k]);
+    say(rt, &text[..k])
 }

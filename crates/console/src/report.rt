@@ -2,10 +2,11 @@
 use super::print::say;
 use printing::ROOM;
 use run::Report;
+use std::io;
 
 // The three lines of a report, by one write.
-pub fn say_report(report: Report) {
+pub fn say_report(rt: &impl Print, report: Report) -> io::Result<()> {
     let mut text = [0u8; ROOM];
     let n = printing::report_text(report, &mut text);
-    say(&text[..n]);
+    say(rt, &text[..n])
 }

@@ -1,7 +1,7 @@
 -- The words of a delay, which stand in one number, and its list: its numbers, each of which has its bit, and the pending ticks, which stay 32
 -- bits. Assumes nothing.
 use mathlib.Core.Path.{◌≡◌, refl, sym, ap, ap₂, ◌∙◌}
-use mathlib.Core.Bool.{Bool, true, false, cond, ◌&&◌, true≢false, false≢true}
+use mathlib.Core.Bool.{Bool, true, false, cond, ◌&&◌, and-true, and-false}
 use mathlib.Core.List.{List, [], ◌∷◌}
 use Prim.Native.Nat.{ℕ, zero, suc, ◌+◌, ◌-◌, ◌*◌, ◌/◌, ◌%◌, ◌<◌, ◌≤◌, ◌^◌}
 use native.Mathlib.Nat.{div-div-eq-div-mul}
@@ -9,12 +9,11 @@ use native.Mathlib.Omega.{arith}
 use borrow.Author.Tests.{leb-true, le-leb, lt-ltb, ltb-true, eqb-true, eqb-false, eq-eqb, ne_eqb}
 use lib.Bits.{bit_or, or_lt, or_zero_l}
 use lib.Dec.{leb, ltb, eqb}
-use lib.IntN.{pos}
 use lib.ListN.{length, get_or}
 use lib.Pow.{pow-lt, pow_pos, pow-add}
 use Rattle.constraint.specs.Meaning.{pending, used, numbers_in, numbers, packed, next_number, shifted, planned, delayed, all_up_to}
 use Rattle.constraint.specs.Pairs.{together}
-use Rattle.constraint.specs.Ticks.{bits, with_tick}
+use Rattle.constraint.specs.Ticks.{with_tick}
 use Rattle.constraint.specs.declared.Parameter.{Parameter}
 use Rattle.constraint.specs.declared.Word.{Word}
 use Rattle.constraint.proofs.Booleans.{and_l, and_r}
@@ -74,6 +73,21 @@ pub numbers_more : (i x : ℕ) → i < 8 → (x % 256 ≡ 0 → ⊥) → numbers
 numbers_more i x h d =
     let e : 8 - i ≡ suc (8 - (i + 1)) = omega arith in
     ap (λ (k : ℕ). numbers_in k x) e ∙ rw (ne_eqb (x % 256) 0 d)
+
+-- whether a list behind i numbers that fit is one that fits
+abbrev pub fits : (i : ℕ) → List ℕ → Bool
+fits i ns = leb 1 (length ns + i) && all_up_to 32 ns
+
+-- no number more
+pub fits_none : (i : ℕ) → fits i [] ≡ leb 1 i
+fits_none i = let e : 0 + i ≡ i = omega arith in ap (λ (k : ℕ). leb 1 k && all_up_to 32 []) e ∙ and-true (leb 1 i)
+
+-- one more
+pub fits_not : (i n : ℕ) (ns : List ℕ) → leb n 32 ≡ false → fits i (n ∷ ns) ≡ false
+fits_not i n ns e = rw e (and-false (leb 1 (suc (length ns) + i)))
+
+pub fits_more : (i n : ℕ) (ns : List ℕ) → leb n 32 ≡ true → fits i (n ∷ ns) ≡ fits (i + 1) ns
+fits_more i n ns e = let k : suc (length ns) + i ≡ length ns + (i + 1) = omega arith in rw (e, k)
 
 -- one in the list is 1 to 32
 pub number_in : (k x i : ℕ) → all_up_to 32 (numbers_in k x) ≡ true → i < length (numbers_in k x) → (m : ℕ) × (get_or (numbers_in k x) i 0 ≡ suc m) × (m < 32)

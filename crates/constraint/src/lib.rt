@@ -2,7 +2,6 @@
 // configurations are. The same-place question, of which this crate has the definition and what its answer means.
 #![tactic(auto)]
 
-
 mod implicit;
 mod pair;
 mod place;

@@ -22,10 +22,13 @@ unfolding with_lines
 lines_named us l ls f h = let vs = with_names us (names_in (words_of l)) in all_kept vs (with_lines vs ls) (form_names f) (lines_keep vs ls) (form_named us l f h)
 
 -- a clock that some line defines is among the names of the lines
-pub defined_named : (us : Words) (ls : List Line) (c : Word) → Some (DefinesClock c) ls → one_of (with_lines us ls) c ≡ true
+named_below : (c : Word) (us : Words) (ls : List Line) → Some (DefinesClock c) ls → one_of (with_lines us ls) c ≡ true
 unfolding with_lines
-defined_named us _ c (here {x = l} {xs = ls} d) = (lines_named us l ls (defines c d.0) d.1).0
-defined_named us _ c (later {x = l} {xs = ls} s) = defined_named (with_names us (names_in (words_of l))) ls c s
+named_below c us _ (here {x = l} {xs = ls} d) = (lines_named us l ls (defines c d.0) d.1).0
+named_below c us _ (later {x = l} {xs = ls} s) = named_below c (with_names us (names_in (words_of l))) ls s
+
+pub defined_named : (us : Words) (ls : List Line) (c : Word) → Some (DefinesClock c) ls → one_of (with_lines us ls) c ≡ true
+defined_named us ls c s = named_below c us ls s
 
 -- ---- names that keep the numbers keep the records
 module _ (us vs : Words) (e : Keeps us vs) (from n : ℕ) where

@@ -1,7 +1,7 @@
 -- No line fits two forms: for any relation of operands in which the words in front determine the operand, since an operand's first
 -- word, and the words of a kind, tell the rows apart, and a list of digit runs ends before a word that is none; and operands in parentheses are such a relation, level by level. Assumes nothing.
 use mathlib.Core.Path.{◌≡◌, refl, sym, ap, ◌∙◌}
-use mathlib.Core.Bool.{cond, true, false, true≢false, false≢true}
+use mathlib.Core.Bool.{cond, true, true≢false, false≢true}
 use mathlib.Core.List.{[], ◌∷◌, ◌++◌, map, append_assoc, append-nil}
 use Prim.Native.Nat.{ℕ, zero, suc}
 use native.Mathlib.Omega.{arith}

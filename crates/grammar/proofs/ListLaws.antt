@@ -2,22 +2,21 @@
 use mathlib.Core.Path.{◌≡◌, refl, sym, ap, ◌∙◌}
 use mathlib.Core.Bool.{Bool, true, false, cond, ◌&&◌, true≢false}
 use mathlib.Core.List.{List, [], ◌∷◌}
-use Prim.Native.Nat.{ℕ, zero, suc, ◌+◌, ◌-◌, ◌*◌, ◌%◌, ◌^◌, ◌<◌, ◌≤◌}
-use native.Mathlib.Nat.{add-mul, mul_assoc, mul_left_comm, mul-le-mul_right, mod-eq_of_lt}
+use Prim.Native.Nat.{ℕ, suc, ◌+◌, ◌*◌, ◌^◌, ◌<◌, ◌≤◌}
+use native.Mathlib.Nat.{add-mul, mul_assoc, mul_left_comm, mul-le-mul_right}
 use native.Mathlib.Omega.{arith}
-use borrow.Author.Tests.{leb-true, ltb-true, ltb-false, le-leb, lt-leb, lt-ltb, le-ltb}
+use borrow.Author.Tests.{leb-true, ltb-true, ltb-false, le-leb, lt-leb}
 use lib.Dec.{leb, ltb}
 use lib.ListN.{length}
-use lib.Pow.{pow-add, pow_mono, pow_pos}
+use lib.Pow.{pow-add, pow_mono}
 use Rattle.constraint.specs.Meaning.{packed}
 use Rattle.text.specs.Split.{bytes_of, front, rest}
 use Rattle.text.specs.declared.Span.{Span}
 use Rattle.grammar.specs.Answers.{with_number, with_numbers}
-use Rattle.grammar.specs.Grammar.{token, number_up_to, delay_numbers, past_digits, all_delays, is_list, listed}
+use Rattle.grammar.specs.Grammar.{token, number_up_to, delay_numbers, past_digits, all_delays, listed}
 use Rattle.grammar.specs.Tokens.{is}
 use Rattle.grammar.specs.declared.Listing.{Listing}
-use Rattle.grammar.specs.declared.Token.TheVariants.{End, Digits}
-use Rattle.constraint.proofs.Booleans.{and_l, and_r}
+use Rattle.grammar.specs.declared.Token.TheVariants.{Digits}
 use Rattle.grammar.proofs.GrammarLaws.{end_token}
 
 -- ---- words: a digit run in front, and none

@@ -2,7 +2,6 @@
 // its words (document 01, "Table text"; document 02, M-101 and M-105).
 #![tactic(auto)]
 
-
 mod building;
 mod line;
 mod list;

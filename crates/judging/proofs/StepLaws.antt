@@ -1,19 +1,17 @@
 -- A turn of the loops over the records of a step, what each outcome of `judged` is, and what every step leaves: the words in range, and how many
 -- there are. Assumes nothing.
 use mathlib.Core.Path.{◌≡◌, refl, sym, ap, ◌∙◌}
-use mathlib.Core.Bool.{true, false, cond}
+use mathlib.Core.Bool.{Bool, true, false, cond}
 use mathlib.Core.List.{List, [], ◌∷◌, ◌++◌}
 use Prim.Native.Nat.{ℕ, suc, ◌+◌, ◌<◌, ◌≤◌}
 use native.Mathlib.Numerals.{add-one}
 use native.Mathlib.Omega.{arith}
-use denote.Enum.Declared.{tag_of}
-use types.Run.{OneOf}
 use lib.ListN.{length, take, drop, get_or, set, length-set, take-append-drop}
 use lib.Seq.{drop-cons, drop-set-lt, take-suc-set, append_snoc}
 use Rattle.limit.specs.declared.Place.{Place}
 use Rattle.constraint.specs.Implicit.{implied_of, completed}
 use Rattle.constraint.specs.Lists.{at, empty, slots, first_out, broken_word}
-use Rattle.constraint.specs.Look.{looked}
+use Rattle.constraint.specs.Look.{looked, seen}
 use Rattle.constraint.specs.Meaning.{holds, next_word, in_range}
 use Rattle.constraint.specs.Million.{in_million, first_past}
 use Rattle.constraint.specs.Ticks.{Ticks, none, bits, with_ticks}
@@ -26,9 +24,8 @@ use Rattle.constraint.specs.declared.Seen.TheVariants.{Leaves, Moves}
 use Rattle.constraint.specs.declared.Word.{Word}
 use Rattle.constraint.proofs.Demand3.{nowhere}
 use Rattle.constraint.proofs.Laws.{holds_none, next_none}
-use Rattle.constraint.proofs.LookLaws.{seen_moves, seen_leaves, seen_fails}
+use Rattle.constraint.proofs.LookLaws.{seen_moves, seen_leaves}
 use Rattle.constraint.proofs.MillionLaws.{range_is_million}
-use Rattle.constraint.specs.contracts.Seen as answer
 use Rattle.constraint.proofs.Slots.{get_d_any, slots_cons, slots_done}
 use Rattle.judging.specs.Code.{first_of, judged_from}
 use Rattle.judging.specs.Step.{first_failing, moved, handed_back, judged}
@@ -57,6 +54,12 @@ no_more Nowhere = refl
 none_left : (F : Ticks) (c : Configuration) (i : ℕ) (past : Broken) (ws : List Word) → judged_from F c i past ws [] ≡ handed_back PastMillion past c (record { outcome = Held; configuration = record { words = ws } })
 unfolding judged_from
 none_left F c i past ws = rw (no_more past, take-append-drop i ws)
+
+-- a record that is seen neither to move its word nor to have it leave fails
+neither : (h s : Bool) (x : Word) → ((v : Word) → seen true h s x ≡ Moves v → ⊥) → ((v : Word) → seen true h s x ≡ Leaves v → ⊥) → h ≡ false
+neither true true x p q = absurd (p x refl)
+neither true false x p q = absurd (q x refl)
+neither false s x p q = refl
 
 module _ (F : Ticks) (c : Configuration) (i : ℕ) (ws : List Word) (room : i < length ws) (r : Constraint) (rs : List Constraint) (w : Word) (here : drop i ws ≡ w ∷ drop (suc i) ws) where
   -- the records behind r, with the word x for r and the places b that left their million
@@ -131,10 +134,10 @@ module _ (F : Ticks) (c : Configuration) (n : ℕ) (rs : List Constraint) where
       pub judge_past : (x : Word) → looked r w F ≡ Leaves x → Going (i + 1) (first_of past (at (i + 1))) (set ws i x)
       judge_past x e = goes_on_lem (first_of past (at (i + 1))) x (rw (add-one i) (from_leaves F c i ws room r _ w word_here past x e))
 
-      pub judge_stop : {a : Seen} → a ≡ looked r w F → OneOf (0 ∷ 1 ∷ 2 ∷ []) (tag_of answer.the_type a) → OneOf (0 ∷ 1 ∷ 3 ∷ []) (tag_of answer.the_type a)
+      pub judge_stop : {a : Seen} → a ≡ looked r w F → ((x : Word) → a ≡ Moves x → ⊥) → ((x : Word) → a ≡ Leaves x → ⊥)
           → record { outcome = Failed (record { 0 = i + 1 }); configuration = c } ≡ judged F (slots n rs) c
       judge_stop e p q =
-          let h = seen_fails (holds r w F) _ _ (rw (e, fine.0) at p) (rw (e, fine.0) at q) in
+          let h = neither (holds r w F) _ _ (rw (e, fine.0) at p) (rw (e, fine.0) at q) in
           rw (add-one i) (sym (from_fails F c i ws room r _ w word_here past h) ∙ same_here)
 
 -- ---- a turn of the loop that completes a tick set

@@ -2,7 +2,6 @@
 // from before the step.
 #![tactic(auto)]
 
-
 mod step;
 
 use constraint::Configuration;

@@ -5,7 +5,7 @@ use native.Mathlib.Omega.{arith}
 use mathlib.Core.List.{List, [], ◌∷◌}
 use lib.ListN.{length, take}
 use seplogic.Ra.Ura.{Ura}
-use seplogic.Ra.TreeShare.{full_share}
+use base.Fraction.{full_share}
 use mir.Raw.{raw as raw_ty}
 use mir.Syntax.{Ty, ty_array}
 use mir.Val.{Val}
@@ -76,7 +76,7 @@ module _ (ys : List Constraint) (is : Is Records ys (records_vals ys)) (n : ℕ)
     parted =
         qed 𝓛 (‵ (fat full_share records_ty l 0 (only (records_vals ys))) ∷ []) ∵ use1 𝓛 (‵ (fat full_share (raw_ty records_ty) l 0 (only (records_vals ys)))) (𝓛.laws.at_raw full_share records_ty l 0 (only (records_vals ys))) $
         owned ! Records (Is Records) (records_made 𝓛) ys (records_vals ys) is $ move ! (1 ∷ 0 ∷ []) $ fjoin ! $
-        fpack ! (List Val) (λ us. fsep (cell_at full_share Records.mir us l 0) (Records.own ys us)) (records_vals ys) $
+        fpack ! (List Val) (λ us. fsep (cell_at full_share Records.mir us l 0) (Records.own_val ys us)) (records_vals ys) $
         use1 𝓛 (‵ (Whole l)) (Array-apart 𝓛 R.the_row full_share tt 66 ys l 0) $
         fsplit ! $ drop ! $ use1 𝓛 (‵ (parts (in_mem R.the_row) (shares R.the_row) full_share (take n ys) l 0) ⊛ ‵ (Others l)) (cuts (shares R.the_row) full_share 𝓛 n ys l 0) $ split ! $
         feq_i ! ℕ (length (take n ys)) (length (take n ys)) refl $ fjoin ! $ done !

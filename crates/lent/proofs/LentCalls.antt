@@ -16,7 +16,7 @@ use types.Kit.{Item, ‵, raw, ◌⊛◌, mean, some, ◌$◌, ◌∵◌, !, qed
 use denote.Laws.{Is}
 use denote.Plain.{uint_Makes}
 use denote.Builtin.{u32, usize}
-use denote.Ref.{MutBor, MutRef}
+use denote.Ref.{Bor, MutBor, MutRef}
 use denote.Slice.{slice_val}
 use denote.Steps.{owned, nothing}
 use denote.Struct.Laws as LL
@@ -112,7 +112,7 @@ module _ {𝓜 : Type 1} {𝓤 : Ura 𝓜} (𝓛 : Logic 𝓤) (mem : Memory →
 
   -- ---- `advance`, on a monitor lent at α and records lent at β
   module _ (α β : Lft) (p q : Share) (b o : ℕ) (γ : GName) (m : Monitor) (b' o' : ℕ) (γ' : GName) (ys : List Constraint) (clocks : Clocks) (ticks : ℕ) where
-    abbrev args : MutBor Monitor × (MutBor (List Constraint) × (Clocks × (ℕ × Unit {0})))
+    abbrev args : MutBor Monitor × (Bor (List Constraint) × (Clocks × (ℕ × Unit {0})))
     args = (record { ref_ptr = (b, o); ghost_name = γ; now = m }, (slice R.the_row b' o' γ' ys, (clocks, (ticks, tt))))
 
     abbrev pub to_advance : Advances.Ghost
@@ -136,5 +136,5 @@ module _ {𝓜 : Type 1} {𝓤 : Ura 𝓜} (𝓛 : Logic 𝓤) (mem : Memory →
 
     pub said_advance : (r : StepAnswer) → ent 𝓤 (Moved r) (mean 𝓛 (some (Stands r)))
     said_advance r = qed 𝓛 (raw (Moved r) ∷ []) ∵ use1 𝓛 (some (λ (ws : Monitor × (Unit {0} × (Unit {0} × (Unit {0} × Unit {0})))).
-        ‵ (lasts advance.ended (α, (β, tt)) args ws) ⊛ raw (fact 𝓤 (moved_to r ws.0 ≡ step_of clocks ys m.configuration ticks)))) (id⊢ 𝓤 _) $ pick ! (λ ws. split ! $ fsplit ! $
-        show ! (λ (m' : Monitor). mean 𝓛 (Stands r m')) ws.0 $ keep ! (0 ∷ 2 ∷ []) $ done !)
+        ‵ (lasts advance.ended (α, (β, tt)) args ws) ⊛ raw (fact 𝓤 (moved_to r ws.0 ≡ step_of clocks ys m.configuration ticks)))) (id⊢ 𝓤 _) $ pick ! (λ ws. split ! $ fsplit ! $ fsplit ! $
+        show ! (λ (m' : Monitor). mean 𝓛 (Stands r m')) ws.0 $ keep ! (0 ∷ 3 ∷ []) $ done !)

@@ -20,7 +20,6 @@ use Rattle.constraint.specs.contracts.Configuration as C
 use Rattle.constraint.proofs.Configuration.TheLaws as C'
 use Rattle.constraint.specs.contracts.Constraint as R
 use Rattle.constraint.proofs.Constraint.TheLaws as R'
-use Rattle.constraint.proofs.Walk.{length_mapped}
 use Rattle.lent.specs.declared.Advanced.{Advanced}
 use Rattle.lent.specs.declared.Monitor.{Monitor}
 use Rattle.judging.specs.declared.StepAnswer.{StepAnswer}
@@ -107,4 +106,4 @@ advanced_of d vs us is-a is_m = subst (Is D.the_row d) ((D'.lowers).val_is d _ h
 
 -- a configuration has 64 words
 pub words_64 : (c : Configuration) (vs : List Val) → Is C.the_row c vs → length c.words ≡ 64
-words_64 c vs is = length_mapped _ _ _ c.words 64 (LL.owed C.the_type C'.the_laws c vs is).0.1.0.1
+words_64 c vs is = (LL.owed C.the_type C'.the_laws c vs is).0.1.0.1

@@ -67,7 +67,7 @@ cells_set (w ∷ ws) (suc i) v = ap (λ (us : List Val). D'.lowered w ∷ us) (c
 
 -- what is known of the words, one by one
 abbrev Each : List Word → List Val → Type 0
-Each ws us = shadow (each (D.the_field).row.Denot (D.the_field).row.own_val (map (D.the_field).into ws) us)
+Each ws us = shadow (each (D.the_row).Denot (D.the_row).own_val ws us)
 
 each_at : (ws : List Word) (us : List Val) → Each ws us → (i : ℕ) (d : Word) → i < length ws → Is D.the_row (get_or ws i d) (cell_vals (get_or ws i d))
 each_at [] us s i d l = absurd (not-suc-le-zero l)
@@ -102,7 +102,7 @@ module _ (c : Configuration) (vs : List Val) (is : Is C.the_row c vs) where
 
   pub words_set : (i : ℕ) (v : Word) → Is D.the_row v (cell_vals v) → Is C.the_row (record { words = set c.words i v }) (place_vals (record { words = set c.words i v }))
   words_set i v g =
-      let as_many = length-map (set c.words i v) (D.the_type).to ∙ length-set c.words i v ∙ words_64 c vs is in
+      let as_many = length-set c.words i v ∙ words_64 c vs is in
       ((array_val (cells (set c.words i v)) ∷ [], tt), (refl, ((cells (set c.words i v), ((refl, as_many), each_set c.words (each_cells c.words _ all) i v g)), tt)))
 
 -- the word that a survey holds

@@ -1,10 +1,7 @@
 -- What the code over one record comes to: what it is told of a record, and what is added where nothing is amiss. Assumes nothing.
 use mathlib.Core.Path.{◌≡◌, refl, ap, ◌∙◌}
 use mathlib.Core.Bool.{Bool, true, false, ◌&&◌, and-eq-true_iff}
-use mathlib.Core.List.{[], ◌∷◌}
 use Prim.Native.Nat.{ℕ}
-use denote.Enum.Declared.{tag_of}
-use types.Run.{OneOf, miss}
 use Rattle.constraint.specs.Look.{looked, fitted_among, fitted}
 use Rattle.constraint.specs.Meaning.{in_range, well_formed}
 use Rattle.constraint.specs.SamePlace.{same_word}
@@ -16,7 +13,6 @@ use Rattle.constraint.specs.declared.Seen.TheVariants.{Out, Fails, Leaves, Moves
 use Rattle.constraint.specs.declared.Word.{Word}
 use Rattle.constraint.proofs.Booleans.{and_l}
 use Rattle.constraint.proofs.ImplicitLaws.{implied_named}
-use Rattle.constraint.specs.contracts.Seen as answer
 use Rattle.lent.specs.Compare as same
 use Rattle.lent.specs.Places.{fitted_here}
 use Rattle.lent.specs.Survey.{inside, held, stayed, added, ticks_here, visited_by, visited}
@@ -24,24 +20,24 @@ use Rattle.lent.specs.declared.Comparison.{Comparison}
 use Rattle.lent.specs.declared.Survey.{Survey}
 use Rattle.lent.proofs.PlaceLaws.{among_told, here_among, here_other}
 
--- ---- each answer but one; the numbers are the places of the others
+-- ---- each answer but one
 
-pub inside_else : (a : Seen) → OneOf (1 ∷ 2 ∷ 3 ∷ []) (tag_of answer.the_type a) → true ≡ inside a
-inside_else Out h = absurd (miss (1 ∷ 2 ∷ 3 ∷ []) 0 tt h)
+pub inside_else : (a : Seen) → (a ≡ Out → ⊥) → true ≡ inside a
+inside_else Out h = absurd (h refl)
 inside_else Fails h = refl
 inside_else (Leaves v) h = refl
 inside_else (Moves v) h = refl
 
-pub held_else : (a : Seen) → OneOf (0 ∷ 2 ∷ 3 ∷ []) (tag_of answer.the_type a) → true ≡ held a
+pub held_else : (a : Seen) → (a ≡ Fails → ⊥) → true ≡ held a
 held_else Out h = refl
-held_else Fails h = absurd (miss (0 ∷ 2 ∷ 3 ∷ []) 1 tt h)
+held_else Fails h = absurd (h refl)
 held_else (Leaves v) h = refl
 held_else (Moves v) h = refl
 
-pub stayed_else : (a : Seen) → OneOf (0 ∷ 1 ∷ 3 ∷ []) (tag_of answer.the_type a) → true ≡ stayed a
+pub stayed_else : (a : Seen) → ((v : Word) → a ≡ Leaves v → ⊥) → true ≡ stayed a
 stayed_else Out h = refl
 stayed_else Fails h = refl
-stayed_else (Leaves v) h = absurd (miss (0 ∷ 1 ∷ 3 ∷ []) 2 tt h)
+stayed_else (Leaves v) h = absurd (h v refl)
 stayed_else (Moves v) h = refl
 
 -- ---- what a record adds

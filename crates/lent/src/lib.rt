@@ -1,7 +1,6 @@
 // The single step and the same-place question on lent records, and the monitor that is lent and moved forward where it stands.
 #![tactic(auto)]
 
-
 mod comparing;
 mod places;
 mod start;

@@ -60,6 +60,7 @@ pub extern "C" fn ccsl_layout() -> u32
 
 // Judges a recording by a table.
 #[unsafe(no_mangle)]
+#[tactic(auto, using(crate::proofs::CallLaws::stored_behind), unfolding(crate::specs::Calls::run_into))]
 pub extern "C" fn ccsl_run(
     table: &[u8],
     recording: &[u8],
@@ -91,6 +92,7 @@ pub extern "C" fn ccsl_run(
 
 // Reads a table.
 #[unsafe(no_mangle)]
+#[tactic(auto, using(crate::proofs::CallLaws::stored_behind), unfolding(crate::specs::Calls::read_into))]
 pub extern "C" fn ccsl_read_table(
     text: &[u8],
     answer: &mut [u64],
@@ -125,6 +127,7 @@ pub extern "C" fn ccsl_read_table(
 
 // The start words of records: where single steps begin.
 #[unsafe(no_mangle)]
+#[tactic(auto, unfolding(crate::specs::Calls::on_records))]
 pub extern "C" fn ccsl_start_words(
     records: &[u64],
     named: u32,
@@ -161,6 +164,7 @@ pub extern "C" fn ccsl_start_words(
 
 // One step of a monitor, whose words are moved where they stand if it is accepted, and left alone else.
 #[unsafe(no_mangle)]
+#[tactic(auto, unfolding(crate::specs::Calls::on_records))]
 pub extern "C" fn ccsl_step(
     records: &[u64],
     named: u32,
@@ -203,6 +207,7 @@ pub extern "C" fn ccsl_step(
 
 // Whether two configurations stand at the same place.
 #[unsafe(no_mangle)]
+#[tactic(auto, unfolding(crate::specs::Calls::place_into))]
 pub extern "C" fn ccsl_same_place(
     records: &[u64],
     named: u32,
@@ -241,6 +246,7 @@ pub extern "C" fn ccsl_same_place(
 
 // The definitions of records in working order.
 #[unsafe(no_mangle)]
+#[tactic(auto, unfolding(crate::specs::Calls::order_into))]
 pub extern "C" fn ccsl_definition_order(
     records: &[u64],
     named: u32,
@@ -278,6 +284,7 @@ pub extern "C" fn ccsl_definition_order(
 
 // Reads a recording by the names of a table: the steps that reading gives, with nothing judged, and how it ended.
 #[unsafe(no_mangle)]
+#[tactic(auto, using(crate::proofs::CallLaws::stored_behind), unfolding(crate::specs::Calls::recording_into))]
 pub extern "C" fn ccsl_read_recording(
     table: &[u8],
     recording: &[u8],

@@ -29,6 +29,7 @@ In d ts = Memᴰ d ts
 -- ---- of a list of definitions, and a number that each has
 module _ (f : Defined → ℕ) where
   pub stands : (ts : List Defined) (d : Defined) → In d ts → among (f d) (map f ts) ≡ true
+  stands [] d m = elim m [ ]
   stands (t ∷ ts) d (Memᴰ.head q) = rw (eq-eqb (f d) (f t) (ap f q))
   stands (t ∷ ts) d (Memᴰ.tail m) = rw (stands ts d m) (or-true (eqb (f d) (f t)))
 
@@ -41,11 +42,13 @@ module _ (f : Defined → ℕ) where
       go false q e ih = let (d, m, p) = ih e in (d, Memᴰ.tail m, p)
 
   below_in : (n : ℕ) (ts : List Defined) (d : Defined) → all_below n (map f ts) ≡ true → In d ts → f d < n
+  below_in n [] d b m = elim m [ ]
   below_in n (t ∷ ts) d b (Memᴰ.head q) = rw (ap f q) (ltb-true (f t) n (and_l _ _ b))
   below_in n (t ∷ ts) d b (Memᴰ.tail m) = below_in n ts d (and_r (ltb (f t) n) _ b) m
 
   -- where these numbers differ
   only_one : (ts : List Defined) (d e : Defined) → distinct (map f ts) ≡ true → In d ts → In e ts → f d ≡ f e → d ≡ e
+  only_one [] d e u m _ s = elim m [ ]
   only_one (t ∷ ts) d e u (Memᴰ.head p) (Memᴰ.head q) s = p ∙ sym q
   only_one (t ∷ ts) d e u (Memᴰ.head p) (Memᴰ.tail n) s =
       absurd (true≢false (sym (stands ts e n) ∙ rw (← s, ap f p) (first_new (f t) (map f ts) u)))

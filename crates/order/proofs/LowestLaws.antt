@@ -30,6 +30,7 @@ all_kept keep (d ∷ ts) all = rw (all d (Memᴰ.head refl)) (ap (λ (xs : List 
 
 -- one of them passes another test
 pub some_kept : (keep : Defined → Bool) (test : ℕ → Bool) (ts : List Defined) (d : Defined) → In d ts → keep d ≡ true → test d.number ≡ true → any test (kept keep ts) ≡ true
+some_kept keep test [] d m k p = elim m [ ]
 some_kept keep test (t ∷ ts) d (Memᴰ.head q) k p = rw (← q, k, p)
 some_kept keep test (t ∷ ts) d (Memᴰ.tail m) k p = go (keep t) (some_kept keep test ts d m k p)
   where

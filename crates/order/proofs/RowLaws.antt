@@ -39,6 +39,7 @@ row_other (t ∷ ts) rows c e =
     row_other ts (set rows t.clock t.operands) c (or_r (eqb c t.clock) _ e) ∙ get_or-set_other rows t.clock c t.operands 0 (eqb-false c t.clock (or_l (eqb c t.clock) _ e))
 
 row_of : (ts : List Defined) (rows : List ℕ) (d : Defined) → In d ts → distinct (clocks_in ts) ≡ true → all_below (length rows) (clocks_in ts) ≡ true → get_or (rows_with rows ts) d.clock 0 ≡ d.operands
+row_of [] rows d m u b = elim m [ ]
 row_of (t ∷ ts) rows d (Memᴰ.head q) u b =
     rw q (row_other ts (set rows t.clock t.operands) t.clock (first_new t.clock (clocks_in ts) u) ∙ get_or-set_same rows t.clock t.operands 0 (ltb-true t.clock (length rows) (and_l _ _ b)))
 row_of (t ∷ ts) rows d (Memᴰ.tail m) u b =

@@ -5,8 +5,6 @@ use mathlib.Core.List.{List, [], ◌∷◌, ◌++◌, map, append-nil}
 use Prim.Native.Nat.{ℕ, zero, suc, ◌+◌, ◌-◌, ◌<◌, ◌≤◌}
 use native.Mathlib.Numerals.{add-one}
 use native.Mathlib.Omega.{arith}
-use denote.Enum.Declared.{tag_of}
-use types.Run.{OneOf, miss}
 use borrow.Author.Tests.{ltb-true}
 use lib.Dec.{ltb}
 use lib.ListN.{length, take, drop, get_or, set, length-append, length-take, drop_of_length-le}
@@ -19,7 +17,6 @@ use Rattle.constraint.specs.declared.Definition.{Definition}
 use Rattle.constraint.specs.declared.Kind.{Kind}
 use Rattle.constraint.specs.declared.Kind.TheVariants.{Empty, Relates, Defines}
 use Rattle.constraint.proofs.Booleans.{and_l, and_r}
-use Rattle.constraint.specs.contracts.Kind as kind
 use Rattle.constraint.proofs.Slots.{get_d_any, slots_cons, slots_done}
 use Rattle.order.specs.Rows.{defined_as, gathered, clocks_in, lowest_of, clocks_left, rows_with, rows_through, closed_from}
 use Rattle.order.specs.declared.Defined.{Defined}
@@ -38,11 +35,11 @@ module _ {A : Type 0} (n : ℕ) (xs : List A) (i : ℕ) where
 
 -- ---- the definitions of records
 
--- what is no definition defines no clock; the numbers are the places of the other variants
-defined_none : (k : Kind) (c : ℕ) → OneOf (0 ∷ 1 ∷ []) (tag_of kind.the_type k) → defined_by k c ≡ []
+-- what is no definition defines no clock
+defined_none : (k : Kind) (c : ℕ) → ((d : Definition) → k ≡ Defines d → ⊥) → defined_by k c ≡ []
 defined_none Empty c h = refl
 defined_none (Relates k) c h = refl
-defined_none (Defines k) c h = absurd (miss (0 ∷ 1 ∷ []) 2 tt h)
+defined_none (Defines k) c h = absurd (h k refl)
 
 -- the first m of a list are those of the records before place i
 module _ (m : ℕ) (list : List Defined) (n : ℕ) (rs : List Constraint) (i : ℕ) where
@@ -56,7 +53,7 @@ module _ (m : ℕ) (list : List Defined) (n : ℕ) (rs : List Constraint) (i : �
     gathered_turn = rw (slots_cons n rs i more, get_d_any rs i empty d inside, add-one (i + 1), add-one i)
 
     pub gathered_over :
-        OneOf (0 ∷ 1 ∷ []) (tag_of kind.the_type (get_or rs i d).kind)
+        ((k : Definition) → (get_or rs i d).kind ≡ Defines k → ⊥)
         → take m list ++ gathered (i + 1) (drop i (slots n rs)) ≡ take m list ++ gathered (i + 1 + 1) (drop (i + 1) (slots n rs))
     gathered_over h = rw (gathered_turn, defined_none (get_or rs i d).kind (get_or rs i d).defined h)
 

@@ -1,7 +1,6 @@
 // The definitions of a list of records in working order, or the lowest record on a circle of definitions.
 #![tactic(auto)]
 
-
 mod circles;
 mod gathering;
 mod listing;

@@ -1,7 +1,6 @@
 // The steps that a recording has, read by the names of a table and not judged, into lists of the caller's; and how reading ended.
 #![tactic(auto)]
 
-
 mod steps;
 
 use limit::Check;

@@ -2,6 +2,7 @@
 use super::ask;
 use super::read::{Item, find, item_of};
 use console::say;
+use std::io;
 use text::{Class, Span};
 
 // Whether a word is a number, or one of those that a line may have.
@@ -30,7 +31,7 @@ fn known(line: &[u8]) -> bool {
 }
 
 // Asks what the first word says.
-fn asked(line: &[u8]) {
+fn asked(rt: &impl Print, line: &[u8]) -> io::Result<()> {
     let word = text::next_word(Class::Space, line, 0);
     let found = find(
         b"step advance same_place rule range fits broken_record broken_word with_tick start",
@@ -38,38 +39,38 @@ fn asked(line: &[u8]) {
     );
     let question = found.place;
     match question {
-        1 => ask::step(line),
-        2 => ask::advance(line),
-        3 => ask::same_place(line),
-        4 => ask::rule(line),
-        5 => ask::range(line),
-        6 => ask::fits(line),
-        7 => ask::broken_record(line),
-        8 => ask::broken_word(line),
-        9 => ask::with_tick(line),
-        10 => ask::start(line),
-        _ => say(b" bad line"),
+        1 => ask::step(rt, line),
+        2 => ask::advance(rt, line),
+        3 => ask::same_place(rt, line),
+        4 => ask::rule(rt, line),
+        5 => ask::range(rt, line),
+        6 => ask::fits(rt, line),
+        7 => ask::broken_record(rt, line),
+        8 => ask::broken_word(rt, line),
+        9 => ask::with_tick(rt, line),
+        10 => ask::start(rt, line),
+        _ => say(rt, b" bad line"),
     }
 }
 
 // The answer behind a name.
-fn answer(line: &[u8]) {
-    say(b":");
+fn answer(rt: &impl Print, line: &[u8]) -> io::Result<()> {
+    say(rt, b":")?;
     if known(line) {
-        asked(line);
+        asked(rt, line)?;
     } else {
-        say(b" bad line");
+        say(rt, b" bad line")?;
     }
-    say(b"\n");
+    say(rt, b"\n")
 }
 
 // A line. One without bytes, and one that starts with a minus sign, asks nothing. One without a colon is a bad line.
-fn line(text: &[u8]) {
+fn line(rt: &impl Print, text: &[u8]) -> io::Result<()> {
     if text.len() == 0 {
-        return;
+        return Ok(());
     }
     if text[0] == 45 {
-        return;
+        return Ok(());
     }
     let colon = find(text, b":");
     let start = colon.end;
@@ -77,22 +78,27 @@ fn line(text: &[u8]) {
     if 2 <= start {
         end = start - 2;
     }
-    say(text::part(text, Span { start: 0, end }));
-    answer(text::part(
-        text,
-        Span {
-            start,
-            end: text.len(),
-        },
-    ));
+    say(rt, text::part(text, Span { start: 0, end }))?;
+    answer(
+        rt,
+        text::part(
+            text,
+            Span {
+                start,
+                end: text.len(),
+            },
+        ),
+    )
 }
 
 // Every line of a text.
-pub fn lines(text: &[u8]) {
+#[tactic(auto, using(text::proofs::Runs::run_from, text::proofs::Runs::run_within))]
+pub fn lines(rt: &impl Print, text: &[u8]) -> io::Result<()> {
     let mut at = 0;
     while at < text.len() {
         let end = text::run_end(Class::Newline, false, text, at);
-        line(&text[at..end]);
+        line(rt, &text[at..end])?;
         at = end + 1;
     }
+    Ok(())
 }

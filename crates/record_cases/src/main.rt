@@ -5,8 +5,10 @@ mod ask;
 mod line;
 mod read;
 
-fn main() {
-    let mut buffer = io::large_buffer();
-    let n = console::read_file(b"cases", &mut buffer);
-    line::lines(&buffer[..n]);
+use std::io;
+
+fn main(rt: HostRuntime) -> io::Result<()> {
+    let mut buffer = [0u8; 65536];
+    let n = console::read_file(&rt, b"cases", &mut buffer);
+    line::lines(&rt, &buffer[..n])
 }

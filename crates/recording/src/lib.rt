@@ -2,7 +2,6 @@
 // refusal of 30 to 44: document 01, "Recording", with the values of document 02, M-100, and 38 of M-103.
 #![tactic(auto)]
 
-
 mod body;
 mod header;
 mod lookup;

@@ -62,7 +62,7 @@ module _ (named : ℕ) (rs : List Constraint) where
   unfolding complete_all
   as_recorded_lem ws [] all = refl
   as_recorded_lem ws (s ∷ ss) all =
-      ap₂ (λ (f : ℕ) (qs : List Step). with_set f s ∷ qs) (completed_keeps named rs ws s.ticks (all [] ss s refl)) (as_recorded_lem _ ss (all_later all))
+      ap₂ (λ (f : ℕ) (qs : List Step). with_set f s ∷ qs) (completed_keeps named rs ws s.ticks (all [] ss s refl)) (as_recorded_lem (moved (bits (completed named rs ws s.ticks)) rs ws) ss (all_later all))
 
   -- after: the words after steps
   module _ (after : List Step → List Word) (more : (ss : List Step) (s : Step) → after (ss ++ s ∷ []) ≡ moved (bits s.ticks) rs (after ss)) where

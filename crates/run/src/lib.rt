@@ -1,7 +1,6 @@
 // The whole run of a recording against a table: verdict, accepted steps, configuration.
 #![tactic(auto)]
 
-
 mod step_by_step;
 mod whole_run;
 

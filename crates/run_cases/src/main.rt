@@ -3,8 +3,9 @@
 // documents 01 and 02 say of each stands in `stdout`.
 #![tactic(auto)]
 
-
 use recording::UnknownNames;
+use std::io;
+use std::rt::{Env, Files};
 use text::Span;
 
 // A file's name without its ending of four bytes.
@@ -22,49 +23,65 @@ fn stem(name: &[u8]) -> &[u8] {
 }
 
 // Prints the report of a table and a recording.
-fn case(table_name: &[u8], recording_name: &[u8], unknown: UnknownNames) {
+fn case<R: Files + Print + Eprint>(
+    rt: &R,
+    table_name: &[u8],
+    recording_name: &[u8],
+    unknown: UnknownNames,
+) -> io::Result<()> {
     let mut table = [0u8; 4097];
     let mut recording = [0u8; 65537];
-    let n = console::read_file(table_name, &mut table);
-    let m = console::read_file(recording_name, &mut recording);
-    console::say(stem(recording_name));
-    console::say(b"\n");
-    console::say_report(run::run(&table[..n], &recording[..m], unknown));
+    let n = console::read_file(rt, table_name, &mut table);
+    let m = console::read_file(rt, recording_name, &mut recording);
+    console::say(rt, stem(recording_name))?;
+    console::say(rt, b"\n")?;
+    console::say_report(rt, run::run(&table[..n], &recording[..m], unknown))
 }
 
 // Runs the case of two arguments.
-fn arguments(i: usize, j: usize, unknown: UnknownNames) {
-    let mut table = io::buffer();
-    let mut recording = io::buffer();
-    let n = os::arg(i, &mut table);
-    let m = os::arg(j, &mut recording);
-    case(&table[..n], &recording[..m], unknown);
+fn arguments<R: Env + Files + Print + Eprint>(
+    rt: &R,
+    i: usize,
+    j: usize,
+    unknown: UnknownNames,
+) -> io::Result<()> {
+    let mut table = [0u8; 4096];
+    let mut recording = [0u8; 4096];
+    let n = console::argument(rt, i, &mut table);
+    let m = console::argument(rt, j, &mut recording);
+    case(rt, &table[..n], &recording[..m], unknown)
 }
 
 // Runs the arguments from one on, up to another, two by two.
-fn cases(from: usize, to: usize, unknown: UnknownNames) {
+fn cases<R: Env + Files + Print + Eprint>(
+    rt: &R,
+    from: usize,
+    to: usize,
+    unknown: UnknownNames,
+) -> io::Result<()> {
     let mut i = from;
     while i < to {
         if to - i < 2 {
-            return;
+            return Ok(());
         }
-        arguments(i, i + 1, unknown);
+        arguments(rt, i, i + 1, unknown)?;
         i += 2;
     }
+    Ok(())
 }
 
 // Whether an argument is `--strict`.
-fn is_strict(i: usize) -> bool {
-    let mut word = io::buffer();
-    let n = os::arg(i, &mut word);
+fn is_strict(rt: &impl Env, i: usize) -> bool {
+    let mut word = [0u8; 4096];
+    let n = console::argument(rt, i, &mut word);
     text::same_bytes(&word[..n], b"--strict")
 }
 
 // The first of the arguments that is `--strict`; their number where none is.
-fn strict_from(count: usize) -> usize {
+fn strict_from(rt: &impl Env, count: usize) -> usize {
     let mut i: usize = 1;
     while i < count {
-        if is_strict(i) {
+        if is_strict(rt, i) {
             return i;
         }
         i += 1;
@@ -72,11 +89,12 @@ fn strict_from(count: usize) -> usize {
     count
 }
 
-fn main() {
-    let count = os::arg_count();
-    let strict = strict_from(count);
-    cases(1, strict, UnknownNames::Ignored);
+fn main(rt: HostRuntime) -> io::Result<()> {
+    let count = console::argument_count(&rt);
+    let strict = strict_from(&rt, count);
+    cases(&rt, 1, strict, UnknownNames::Ignored)?;
     if strict < count {
-        cases(strict + 1, count, UnknownNames::Refused);
+        cases(&rt, strict + 1, count, UnknownNames::Refused)?;
     }
+    Ok(())
 }

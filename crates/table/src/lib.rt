@@ -2,7 +2,6 @@
 // "Where each refusal is checked"; document 02, M-101 and M-105.
 #![tactic(auto)]
 
-
 mod reader;
 
 use constraint::Constraint;

@@ -1,30 +1,31 @@
 // The words of the forms.
 use console::say;
 use constraint::{Definition, Kind, Relation};
+use std::io;
 
 // The words of a relation's form.
-fn say_relation(relation: Relation) {
+fn say_relation(rt: &impl Print, relation: Relation) -> io::Result<()> {
     match relation {
-        Relation::Coincides => say(b"="),
-        Relation::Excludes => say(b"#"),
-        Relation::SubClock => say(b"isSubClockOf"),
-        Relation::StrictlyPrecedes => say(b"strictly precedes"),
-        Relation::Precedes => say(b"precedes"),
+        Relation::Coincides => say(rt, b"="),
+        Relation::Excludes => say(rt, b"#"),
+        Relation::SubClock => say(rt, b"isSubClockOf"),
+        Relation::StrictlyPrecedes => say(rt, b"strictly precedes"),
+        Relation::Precedes => say(rt, b"precedes"),
     }
 }
 
 // The words of a definition's form.
-fn say_definition(definition: Definition) {
+fn say_definition(rt: &impl Print, definition: Definition) -> io::Result<()> {
     match definition {
-        Definition::Union => say(b"clockUnion"),
-        Definition::Inter => say(b"clockInter"),
-        Definition::Lub => say(b"lub"),
-        Definition::Glb => say(b"glb"),
-        Definition::Await => say(b"await"),
-        Definition::StrictlySampled => say(b"strictly sampled"),
-        Definition::Sampled => say(b"sampled"),
-        Definition::Upto => say(b"upto"),
-        Definition::Deferred => say(b"deferred"),
+        Definition::Union => say(rt, b"clockUnion"),
+        Definition::Inter => say(rt, b"clockInter"),
+        Definition::Lub => say(rt, b"lub"),
+        Definition::Glb => say(rt, b"glb"),
+        Definition::Await => say(rt, b"await"),
+        Definition::StrictlySampled => say(rt, b"strictly sampled"),
+        Definition::Sampled => say(rt, b"sampled"),
+        Definition::Upto => say(rt, b"upto"),
+        Definition::Deferred => say(rt, b"deferred"),
     }
 }
 
@@ -40,10 +41,10 @@ pub fn is_delay(kind: Kind) -> bool {
 }
 
 // The words of a form, or `empty`.
-pub fn say_kind(kind: Kind) {
+pub fn say_kind(rt: &impl Print, kind: Kind) -> io::Result<()> {
     match kind {
-        Kind::Empty => say(b"empty"),
-        Kind::Relates(relation) => say_relation(relation),
-        Kind::Defines(definition) => say_definition(definition),
+        Kind::Empty => say(rt, b"empty"),
+        Kind::Relates(relation) => say_relation(rt, relation),
+        Kind::Defines(definition) => say_definition(rt, definition),
     }
 }

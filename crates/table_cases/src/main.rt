@@ -6,12 +6,15 @@ mod file;
 mod form;
 mod show;
 
+use std::io;
+
 // Reads the file of each argument, in order.
-fn main() {
-    let n = os::arg_count();
+fn main(rt: HostRuntime) -> io::Result<()> {
+    let n = console::argument_count(&rt);
     let mut i: usize = 1;
     while i < n {
-        file::argument(i);
+        file::argument(&rt, i)?;
         i += 1;
     }
+    Ok(())
 }

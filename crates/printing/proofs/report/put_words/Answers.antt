@@ -1,0 +1,32 @@
+use Prim.Native.Nat.{◌+◌}
+use mathlib.Core.Path.{◌≡◌}
+use native.Mathlib.Omega.{arith}
+use lib.IntN.{pos}
+use lib.ListN.{length, take, set}
+use borrow.Author.Rules.{rules}
+use Rattle.constraint.specs.Meaning.{word}
+use Rattle.printing.specs.Printed.{rest}
+use Rattle.printing.specs.Put.{Put}
+use Rattle.printing.proofs.PrintedLaws.{texts, left_pair, left_end}
+use Rattle.printing.proofs.PutLaws.{left_all}
+use Rattle.printing.proofs.report.put_words.Goals as goal
+use Rattle.printing.proofs.report.put_words.Goals.{After-loop-i}
+
+pub loop-i-preserved : goal.loop-i-preserved
+loop-i-preserved c =
+    let ws = c.args.words in
+    let e : length ws ≡ 64 = search rules in
+    (omega arith, omega arith, left_pair ws _ _ _ (omega arith) c.loop-i.invariant.2 c.loop-i-test.true c.put_pair-to.ensures.put)
+
+-- the line's end is put last
+whole : (c : After-loop-i) → Put c.args.out.now c.args.at (rest (texts (take c.args.count c.args.words))) (set c.loop-i.out c.loop-i.to 10) (c.loop-i.to + 1)
+whole c =
+    let ws = c.args.words in
+    let e : length ws ≡ 64 = search rules in
+    left_end ws _ _ (word (pos 0)) (omega arith) c.loop-i.invariant.2 c.loop-i-test.false
+
+pub loop-i-init : goal.loop-i-init
+loop-i-init c = (omega arith, omega arith, left_all _ _ _)
+
+pub returns : goal.returns
+returns c = record { put = whole c; short = omega arith }
