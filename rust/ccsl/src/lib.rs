@@ -1,5 +1,5 @@
-//! Safe calls of the proved checker of clock constraints, `libmonitor_c.a`, which `rt staticlib monitor_c`
-//! builds.
+//! Safe calls of the proved checker of clock constraints, `libmonitor_c.a`, which `rt lib` builds in the
+//! folder of the crate `monitor_c`.
 //!
 //! A table of constraints and a recording of ticks go in, a verdict comes out:
 //!

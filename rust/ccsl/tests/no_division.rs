@@ -290,7 +290,7 @@ fn disassembled(file: &Path) -> (BTreeSet<String>, BTreeSet<String>) {
 /// only the source shows.
 #[test]
 fn the_built_library_has_no_division() {
-    let (all, dividing) = disassembled(&repository().join("target/staticlib/libmonitor_c.a"));
+    let (all, dividing) = disassembled(&repository().join("crates/monitor_c/out/libmonitor_c.a"));
     assert!(all.contains("ccsl_run"), "{all:?}");
     assert_eq!(dividing, BTreeSet::new());
 }
