@@ -5,5 +5,5 @@ use recording::UnknownNames;
 use std::io;
 
 fn main(rt: HostRuntime) -> io::Result<()> {
-    console::judge_folder(&rt, UnknownNames::Ignored)
+    console::judge_folder(&rt, &rt.stderr(), UnknownNames::Ignored)
 }

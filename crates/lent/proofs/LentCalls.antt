@@ -1,4 +1,4 @@
--- What a caller hands to the lent calls and to `at_most_lem`, and what it learns: their contracts, at any machine value of a configuration. Assumes nothing.
+-- What a caller hands to the lent calls and to `at_most`, and what it learns: their contracts, at any machine value of a configuration. Assumes nothing.
 use mathlib.Core.Path.{◌≡◌}
 use Prim.Native.Nat.{ℕ}
 use mathlib.Core.List.{List, [], ◌∷◌}
@@ -42,7 +42,7 @@ use Rattle.lent.proofs.Elem.{slice, OwnSlice}
 use Rattle.lent.proofs.LentTypes.{clock_vals}
 use Rattle.lent.specs.contracts.Monitor as M
 use Rattle.lent.specs.contracts.walks.advance as advance
-use Rattle.lent.specs.contracts.walks.at_most as at_most_lem
+use Rattle.lent.specs.contracts.walks.at_most as clamp
 use Rattle.lent.specs.contracts.walks.same_place as same_place
 use Rattle.lent.specs.contracts.walks.step as step
 
@@ -59,9 +59,9 @@ module _ {𝓜 : Type 1} {𝓤 : Ura 𝓜} (𝓛 : Logic 𝓤) (mem : Memory →
   Advances = triple_of 𝓛 advance.signature (advance.spec 𝓛 mem run)
 
   abbrev pub AtMost : Contract 𝓤
-  AtMost = triple_of 𝓛 at_most_lem.signature (at_most_lem.spec 𝓛 mem run)
+  AtMost = triple_of 𝓛 clamp.signature (clamp.spec 𝓛 mem run)
 
-  -- ---- `at_most_lem`
+  -- ---- `at_most`
   module _ (count : ℕ) where
     abbrev pub to_at_most : AtMost.Ghost
     to_at_most = ((tt, tt, tt, (count, tt), (vint w64 count ∷ [], tt)), tt)
@@ -70,10 +70,10 @@ module _ {𝓜 : Type 1} {𝓤 : Ura 𝓜} (𝓛 : Logic 𝓤) (mem : Memory →
     asked_at_most is = qed 𝓛 (‵ ftrue ∷ []) ∵ owned ! usize (Is usize) (uint_Makes 𝓛 w64) count _ is $ fjoin ! $ nothing ! $ join ! $ frame ! $ done !
 
     abbrev pub Clamped : ℕ → SProp 𝓤
-    Clamped m = ensured 𝓛 at_most_lem.ended (at_most_lem.clauses 𝓛 mem run) tt (count, tt) tt m
+    Clamped m = ensured 𝓛 clamp.ended (clamp.clauses 𝓛 mem run) tt (count, tt) tt m
 
     pub said_at_most : (m : ℕ) → ent 𝓤 (Clamped m) (fact 𝓤 (m ≡ at_most count))
-    said_at_most m = ex_e 𝓤 _ (λ us. snd∗ 𝓤 (sem 𝓛 (lasts at_most_lem.ended tt (count, tt) us)) (fact 𝓤 (m ≡ at_most count)))
+    said_at_most m = ex_e 𝓤 _ (λ us. snd∗ 𝓤 (sem 𝓛 (lasts clamp.ended tt (count, tt) us)) (fact 𝓤 (m ≡ at_most count)))
 
   -- ---- `step`, on records lent at any lifetime, share and name
   module _ (κ : Lft) (q : Share) (b o : ℕ) (γ : GName) (ys : List Constraint) (clocks : Clocks) (c : Configuration) (ticks : ℕ) (cv : Val) where

@@ -22,10 +22,10 @@ use Rattle.lent.specs.declared.Comparison.{Comparison}
 -- ---- the first 64 of the records, at an index that the test of a walk lets pass, or not
 
 module _ (ys : List Constraint) (i : ℕ) where
-  both_below : (ltb i (length ys) && ltb i 64) ≡ true → (i < length ys) × (i < 64)
+  pub both_below : (ltb i (length ys) && ltb i 64) ≡ true → (i < length ys) × (i < 64)
   both_below h = (ltb-true _ _ (and_l _ _ h), ltb-true _ _ (and_r _ _ h))
 
-  none_left : (ltb i (length ys) && ltb i 64) ≡ false → drop i (take 64 ys) ≡ []
+  pub none_left : (ltb i (length ys) && ltb i 64) ≡ false → drop i (take 64 ys) ≡ []
   none_left h = go (ltb i (length ys)) (ltb i 64) refl refl h
     where
       go : (x y : Bool) → ltb i (length ys) ≡ x → ltb i 64 ≡ y → (x && y) ≡ false → drop i (take 64 ys) ≡ []

@@ -7,7 +7,7 @@ use super::{DefinitionOrder, Definitions};
 use constraint::{ticks, with_tick};
 use limit::Check;
 
-// The clocks that are defined; taken from the last definition on, as clocksLeft has them.
+// The clocks that are defined; taken from the last definition on, as clocks_left has them.
 fn defined_clocks(definitions: Definitions) -> u32
     requires { definitions.count ≤ 32 }
     ensures { result ≡ clocks_left (list_of definitions) }

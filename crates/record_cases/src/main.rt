@@ -9,6 +9,6 @@ use std::io;
 
 fn main(rt: HostRuntime) -> io::Result<()> {
     let mut buffer = [0u8; 65536];
-    let n = console::read_file(&rt, b"cases", &mut buffer);
+    let n = console::read_file(&rt, &rt.stderr(), b"cases", &mut buffer);
     line::lines(&rt, &buffer[..n])
 }

@@ -23,24 +23,26 @@ fn stem(name: &[u8]) -> &[u8] {
 }
 
 // Prints the report of a table and a recording.
-fn case<R: Files + Print + Eprint>(
+fn case<R: Files + Print>(
     rt: &R,
+    errors: &impl Print,
     table_name: &[u8],
     recording_name: &[u8],
     unknown: UnknownNames,
 ) -> io::Result<()> {
     let mut table = [0u8; 4097];
     let mut recording = [0u8; 65537];
-    let n = console::read_file(rt, table_name, &mut table);
-    let m = console::read_file(rt, recording_name, &mut recording);
+    let n = console::read_file(rt, errors, table_name, &mut table);
+    let m = console::read_file(rt, errors, recording_name, &mut recording);
     console::say(rt, stem(recording_name))?;
     console::say(rt, b"\n")?;
     console::say_report(rt, run::run(&table[..n], &recording[..m], unknown))
 }
 
 // Runs the case of two arguments.
-fn arguments<R: Env + Files + Print + Eprint>(
+fn arguments<R: Env + Files + Print>(
     rt: &R,
+    errors: &impl Print,
     i: usize,
     j: usize,
     unknown: UnknownNames,
@@ -49,12 +51,13 @@ fn arguments<R: Env + Files + Print + Eprint>(
     let mut recording = [0u8; 4096];
     let n = console::argument(rt, i, &mut table);
     let m = console::argument(rt, j, &mut recording);
-    case(rt, &table[..n], &recording[..m], unknown)
+    case(rt, errors, &table[..n], &recording[..m], unknown)
 }
 
 // Runs the arguments from one on, up to another, two by two.
-fn cases<R: Env + Files + Print + Eprint>(
+fn cases<R: Env + Files + Print>(
     rt: &R,
+    errors: &impl Print,
     from: usize,
     to: usize,
     unknown: UnknownNames,
@@ -64,7 +67,7 @@ fn cases<R: Env + Files + Print + Eprint>(
         if to - i < 2 {
             return Ok(());
         }
-        arguments(rt, i, i + 1, unknown)?;
+        arguments(rt, errors, i, i + 1, unknown)?;
         i += 2;
     }
     Ok(())
@@ -90,11 +93,12 @@ fn strict_from(rt: &impl Env, count: usize) -> usize {
 }
 
 fn main(rt: HostRuntime) -> io::Result<()> {
+    let errors = rt.stderr();
     let count = console::argument_count(&rt);
     let strict = strict_from(&rt, count);
-    cases(&rt, 1, strict, UnknownNames::Ignored)?;
+    cases(&rt, &errors, 1, strict, UnknownNames::Ignored)?;
     if strict < count {
-        cases(&rt, strict + 1, count, UnknownNames::Refused)?;
+        cases(&rt, &errors, strict + 1, count, UnknownNames::Refused)?;
     }
     Ok(())
 }

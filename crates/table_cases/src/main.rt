@@ -13,7 +13,7 @@ fn main(rt: HostRuntime) -> io::Result<()> {
     let n = console::argument_count(&rt);
     let mut i: usize = 1;
     while i < n {
-        file::argument(&rt, i)?;
+        file::argument(&rt, &rt.stderr(), i)?;
         i += 1;
     }
     Ok(())
