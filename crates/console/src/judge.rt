@@ -7,7 +7,8 @@ use std::io;
 use std::rt::Files;
 
 // Judges the recording `trace.vcd` by the table `table.ccsl`, both in the working directory, and prints three lines: verdict, number of
-// accepted steps, configuration; what becomes of a file that can't be read goes to `errors`. There is room for one byte more than each limit, so that 10 and 30 are seen.
+// accepted steps, configuration; what becomes of a file that can't be read goes to `errors`.
+// There is room for one byte more than each limit, so that 10 and 30 are seen.
 pub fn judge_folder<R: Files + Print>(
     rt: &R,
     errors: &impl Print,

@@ -1,5 +1,5 @@
--- One element of a lent slice of any type whose values are copied, looked at: the slice's cells are opened, element i's is had at a share (`elem_look`), and put back (`elem_shut`); `Shut` is the others and the token's way back, with which it is
--- put back. The slice is copied: one copy is kept whole, and the other is opened. Assumes nothing.
+-- One element of a lent slice of any type whose values are copied, looked at: the slice's cells are opened, element i's is had at a share (`elem_look`), and put back (`elem_shut`); `Shut` is the other elements and the token's way back. The slice is
+-- copied: one copy is kept whole, and the other is opened. Assumes nothing.
 use Prim.Native.Nat.{ℕ, ◌<◌}
 use mathlib.Core.List.{List, [], ◌∷◌}
 use lib.ListN.{length, get_or}
