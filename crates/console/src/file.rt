@@ -1,55 +1,69 @@
-// Files. One that cannot be opened, or whose reading fails, counts as empty, and a line on standard error says so. `errors` is standard error.
-ghost use Rattle.io.specs.Counts.{IsPrefixLen};
+// Files. One that cannot be opened, or whose reading fails, counts as empty, and a line on standard error says so.
+ghost use Rattle.std.specs.Prelude.{◌≤◌, length, IfOk};
 
 use std::fs::File;
 use std::io::Read;
 use std::rt::Files;
-use std::{io, str};
+use std::{fmt, str};
 
-// Says on standard error what became of a file. Where that can't be written nothing is left to be told, and the run goes on.
-fn warn(errors: &impl Print, name: &[u8], what: &[u8]) {
+// Why a file counts as empty.
+#[derive(Clone, Copy, Debug)]
+enum Unread {
+    NotOpened,
+    ReadingFailed,
+}
+
+impl fmt::Display for Unread {
+    fn fmt<W: fmt::Write>(&self, f: &mut fmt::Formatter<W>) -> fmt::Result {
+        match self {
+            Unread::NotOpened => write!(f, " can't be opened, and counts as empty"),
+            Unread::ReadingFailed => write!(f, ": reading failed, and it counts as empty"),
+        }
+    }
+}
+
+// Says on standard error what became of a file; its name is a write of its own, since it may be no text. Where that can't be written nothing is
+// left to be told, and the run goes on.
+fn warn(errors: &impl Print, name: &[u8], reason: Unread) {
     let _ = errors.write_all(b"ccsl: ");
     let _ = errors.write_all(name);
-    let _ = errors.write_all(what);
+    let _ = errors.println(reason);
 }
 
-fn reading_failed(errors: &impl Print, name: &[u8]) {
-    warn(errors, name, b": reading failed, and it counts as empty\n");
-}
-
-// Fills the buffer from an open file, read by read up to its end, and answers how many bytes it put there: none where a read fails.
-fn read_open<F: Read>(errors: &impl Print, file: &mut F, name: &[u8], buffer: &mut [u8]) -> usize
-    ensures { IsPrefixLen result buffer.new }
+// Fills the buffer from the start of a file, and answers how many bytes it put there. A name that is no text names no file. It loops by hand: the
+// standard library reads a whole file into the heap alone, and `read_exact` tells no count where a file ends early.
+fn fill<R: Files>(rt: &R, name: &[u8], buffer: &mut [u8]) -> Result<usize, Unread>
+    ensures { IfOk result (λ n. n ≤ length buffer.new) }
 {
+    let text = str::from_utf8(name).map_err(|_| Unread::NotOpened)?;
+    let mut file = File::open(rt, text).map_err(|_| Unread::NotOpened)?;
     let mut n = 0;
     while n < buffer.len() {
-        let Ok(more) = file.read(&mut buffer[n..]) else {
-            reading_failed(errors, name);
-            return 0;
-        };
+        let more = file
+            .read(&mut buffer[n..])
+            .map_err(|_| Unread::ReadingFailed)?;
         if more == 0 {
-            return n;
+            return Ok(n);
         }
         n += more;
     }
-    n
+    Ok(n)
 }
 
-// The file of a name. One that is no text names none.
-fn open<R: Files>(rt: &R, name: &[u8]) -> io::Result<R::File> {
-    let Ok(text) = str::from_utf8(name) else {
-        return Err(io::Error::from(io::ErrorKind::InvalidFilename));
-    };
-    File::open(rt, text)
-}
-
-// Fills the buffer from the start of a file, and answers how many bytes it put there.
-pub fn read_file<R: Files>(rt: &R, errors: &impl Print, name: &[u8], buffer: &mut [u8]) -> usize
-    ensures { IsPrefixLen result buffer.new }
+// Fills the buffer from the start of a file, and answers the bytes that it put there.
+pub fn read_file<'a, R: Files>(
+    rt: &R,
+    errors: &impl Print,
+    name: &[u8],
+    buffer: &'a mut [u8],
+) -> &'a [u8]
+    ensures { length result.now ≤ length buffer.old }
 {
-    let Ok(mut file) = open(rt, name) else {
-        warn(errors, name, b" can't be opened, and counts as empty\n");
-        return 0;
-    };
-    read_open(errors, &mut file, name, buffer)
+    match fill(rt, name, buffer) {
+        Ok(n) => &buffer[..n],
+        Err(reason) => {
+            warn(errors, name, reason);
+            &[]
+        }
+    }
 }

@@ -1,14 +1,13 @@
-// What the programs share: arguments are counted and read; files are read into a buffer, and judged; numbers, words and reports are printed.
+// What the programs share: their arguments; files are read, and two of them judged; a constraint's words as the test programs print them.
+// `errors` is standard error, which is handed on beside `rt`: no bound gives it with a write of bytes that are no text.
 #![tactic(auto)]
 
-mod arguments;
+mod command_line;
 mod file;
 mod judge;
-mod print;
-mod report;
+mod word;
 
-pub use arguments::{argument, argument_count};
+pub use command_line::{argument, arguments};
 pub use file::read_file;
-pub use judge::judge_folder;
-pub use print::{say, say_field, say_number, say_refusal, say_word};
-pub use report::say_report;
+pub use judge::{judge_files, judge_folder, print_report};
+pub use word::Part;

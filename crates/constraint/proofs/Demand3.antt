@@ -9,17 +9,17 @@ use native.Mathlib.Omega.{arith}
 use borrow.Author.Tests.{leb-true, not-true}
 use lib.Dec.{leb}
 use lib.ListN.{length}
+use Rattle.std.specs.Prelude.{Option, None, Ok, Err}
+use Rattle.limit.specs.declared.Place.{Place}
 use Rattle.limit.specs.Limit.{number_of}
 use Rattle.limit.proofs.Numbers.{refusals_differ}
 use Rattle.constraint.specs.Lists.{at, empty, all_known, record_fits, first_unfit, counts_fit, broken_record, first_out}
 use Rattle.constraint.specs.Meaning.{defined_of, used_of, well_formed, in_range}
 use Rattle.constraint.specs.SamePlace.{Answer, AnswerDetermines, same, different, same_place_of, same_word, same_words, accepts, AllAlike, SomeApart, record_at, word_at, SamePlaceMeant, Answered}
 use Rattle.constraint.specs.Ticks.{Ticks, none, any, adding_all}
-use Rattle.constraint.specs.declared.Broken.{Broken}
-use Rattle.constraint.specs.declared.Broken.TheVariants.{Nowhere}
 use Rattle.constraint.specs.declared.Clocks.{Clocks}
 use Rattle.constraint.specs.declared.Constraint.{Constraint}
-use Rattle.constraint.specs.declared.SamePlace.TheVariants.{Refused, Same, Different}
+use Rattle.constraint.specs.declared.Likeness.TheVariants.{Same, Different}
 use Rattle.constraint.specs.declared.Word.{Word}
 use Rattle.constraint.proofs.Booleans.{and_l, and_r, never}
 use Rattle.constraint.proofs.OneRecord.{words_apart, words_alike}
@@ -27,18 +27,18 @@ use Rattle.constraint.proofs.Words.{word_discrete, same_yes, same_self, only_zer
 
 -- ---- what it means that a limit is broken nowhere
 
-pub nowhere : (t : Bool) (x : Broken) (i : ℕ) → cond t x (at i) ≡ Nowhere → (t ≡ true) × (x ≡ Nowhere)
+pub nowhere : (t : Bool) (x : Option Place) (i : ℕ) → cond t x (at i) ≡ None → (t ≡ true) × (x ≡ None)
 nowhere true x i e = (refl, e)
 nowhere false x i e = let z : ◌≡◌ {A = ℕ} 0 1 = cc in absurd (omega arith)
 
-pub clocks_pass : (clocks : Clocks) (rs : List Constraint) → broken_record clocks rs ≡ Nowhere → (clocks.count ≤ 32) × (first_unfit clocks none 1 rs ≡ Nowhere)
+pub clocks_pass : (clocks : Clocks) (rs : List Constraint) → broken_record clocks rs ≡ None → (clocks.count ≤ 32) × (first_unfit clocks none 1 rs ≡ None)
 clocks_pass clocks rs e = let p = nowhere (counts_fit clocks) _ 0 e in (leb-true clocks.count 32 (and_l _ _ p.0), p.1)
 
-pub named_pass : (clocks : Clocks) (rs : List Constraint) → broken_record clocks rs ≡ Nowhere → clocks.named ≤ clocks.count
+pub named_pass : (clocks : Clocks) (rs : List Constraint) → broken_record clocks rs ≡ None → clocks.named ≤ clocks.count
 named_pass clocks rs e = leb-true _ _ (and_r (leb clocks.count 32) _ (nowhere (counts_fit clocks) _ 0 e).0)
 
 -- of the first record, and of those after it
-module _ (clocks : Clocks) (earlier : Ticks) (i : ℕ) (r : Constraint) (rs : List Constraint) (e : first_unfit clocks earlier i (r ∷ rs) ≡ Nowhere) where
+module _ (clocks : Clocks) (earlier : Ticks) (i : ℕ) (r : Constraint) (rs : List Constraint) (e : first_unfit clocks earlier i (r ∷ rs) ≡ None) where
   fits : record_fits clocks earlier i r ≡ true
   fits = (nowhere _ _ i e).0
 
@@ -57,11 +57,11 @@ module _ (clocks : Clocks) (earlier : Ticks) (i : ℕ) (r : Constraint) (rs : Li
   pub used_passes : all_known clocks.named earlier (used_of r) ≡ true
   used_passes = and_r (not (any earlier (defined_of r))) _ rest_passes
 
-  pub later_pass : first_unfit clocks (adding_all (defined_of r) earlier) (suc i) rs ≡ Nowhere
+  pub later_pass : first_unfit clocks (adding_all (defined_of r) earlier) (suc i) rs ≡ None
   later_pass = (nowhere (record_fits clocks earlier i r) _ i e).1
 
 -- at most 64 records pass
-pub records_pass : (clocks : Clocks) (earlier : Ticks) (i : ℕ) (rs : List Constraint) → i ≤ 65 → first_unfit clocks earlier i rs ≡ Nowhere → i + length rs ≤ 65
+pub records_pass : (clocks : Clocks) (earlier : Ticks) (i : ℕ) (rs : List Constraint) → i ≤ 65 → first_unfit clocks earlier i rs ≡ None → i + length rs ≤ 65
 records_pass clocks earlier i [] h e = omega arith
 records_pass clocks earlier i (r ∷ rs) h e =
     let p = place_passes clocks earlier i r rs e in
@@ -85,7 +85,7 @@ words_same ws vs e = rw (← e) (words_self ws)
 
 -- ---- beyond the records all words are 0
 
-zeros : (i : ℕ) (ws vs : List Word) → length ws ≡ length vs → first_out i [] ws ≡ Nowhere → first_out i [] vs ≡ Nowhere → ws ≡ vs
+zeros : (i : ℕ) (ws vs : List Word) → length ws ≡ length vs → first_out i [] ws ≡ None → first_out i [] vs ≡ None → ws ≡ vs
 zeros i [] [] l p q = refl
 zeros i [] (v ∷ vs) l p q = absurd (omega arith)
 zeros i (w ∷ ws) [] l p q = absurd (omega arith)
@@ -100,8 +100,8 @@ abbrev Told : (clocks : Clocks) (rs : List Constraint) (ws vs : List Word) → T
 Told clocks rs ws vs = (ws ≢ vs → SomeApart clocks rs ws vs) × (AllAlike clocks rs ws vs → ws ≡ vs)
 
 told : (clocks : Clocks) (earlier : Ticks) (i : ℕ) (rs : List Constraint) (ws vs : List Word)
-    → first_unfit clocks earlier i rs ≡ Nowhere → length ws ≡ length vs → length rs ≤ length ws
-    → first_out i rs ws ≡ Nowhere → first_out i rs vs ≡ Nowhere → Told clocks rs ws vs
+    → first_unfit clocks earlier i rs ≡ None → length ws ≡ length vs → length rs ≤ length ws
+    → first_out i rs ws ≡ None → first_out i rs vs ≡ None → Told clocks rs ws vs
 told clocks earlier i [] ws vs ok l m p q = (λ d. absurd (d (zeros i ws vs l p q)), λ s. zeros i ws vs l p q)
 told clocks earlier i (r ∷ rs) [] vs ok l m p q = absurd (omega arith)
 told clocks earlier i (r ∷ rs) (w ∷ ws) [] ok l m p q = absurd (omega arith)
@@ -151,15 +151,15 @@ answered clocks rs ws vs lw lv said e = record { given = e; meant = rw e (demand
 
 -- an answer in document 01's words is the answer of one value alone
 pub answer_determines : AnswerDetermines
-answer_determines (Refused r) (Refused s) e =
+answer_determines (Err r) (Err s) e =
     let n : number_of r.limit ≡ number_of s.limit = cc in
     let p : r.place.0 ≡ s.place.0 = cc in
-    ap Refused (refusals_differ r s n p)
-answer_determines (Refused r) Same e = cc
-answer_determines (Refused r) Different e = cc
-answer_determines Same (Refused s) e = cc
-answer_determines Same Same e = refl
-answer_determines Same Different e = cc
-answer_determines Different (Refused s) e = cc
-answer_determines Different Same e = cc
-answer_determines Different Different e = refl
+    ap Err (refusals_differ r s n p)
+answer_determines (Err r) (Ok Same) e = cc
+answer_determines (Err r) (Ok Different) e = cc
+answer_determines (Ok Same) (Err s) e = cc
+answer_determines (Ok Same) (Ok Same) e = refl
+answer_determines (Ok Same) (Ok Different) e = cc
+answer_determines (Ok Different) (Err s) e = cc
+answer_determines (Ok Different) (Ok Same) e = cc
+answer_determines (Ok Different) (Ok Different) e = refl

@@ -6,17 +6,15 @@ use mathlib.Core.List.{List, [], ◌∷◌, ◌++◌, map}
 use Prim.Native.Nat.{ℕ, zero, suc, ◌%◌, ◌^◌, ◌<◌, ◌≤◌}
 use native.Mathlib.Nat.{lt_of_lt_of_le, mod-eq_of_lt}
 use native.Mathlib.Omega.{arith}
-use denote.Enum.Declared.{tag_of}
-use types.Run.{OneOf, miss}
 use borrow.Author.Tests.{ltb-true, lt-ltb, ltb-false, eqb-true, eq-eqb}
 use lib.Dec.{ltb, eqb}
 use lib.Pow.{pow_mono}
+use Rattle.std.specs.Prelude.{None}
 use Rattle.constraint.specs.Implicit.{implied, implied_of, completed, Each, defines_implicit, ImplicitHold, EveryStepCompletes, ImplicitNeverFails}
 use Rattle.constraint.specs.Lists.{all_known, first_unfit, broken_record}
 use Rattle.constraint.specs.Meaning.{due, holds, defined_by, operands, defined_of, used_of, clocks_of, well_formed}
 use Rattle.constraint.specs.SamePlace.{record_at}
 use Rattle.constraint.specs.Ticks.{Ticks, none, any, adding_all, bits, with_ticks}
-use Rattle.constraint.specs.declared.Broken.TheVariants.{Nowhere}
 use Rattle.constraint.specs.declared.Clocks.{Clocks}
 use Rattle.constraint.specs.declared.Constraint.{Constraint}
 use Rattle.constraint.specs.declared.Definition.{Definition}
@@ -25,7 +23,6 @@ use Rattle.constraint.specs.declared.Kind.TheVariants.{Empty, Relates, Defines}
 use Rattle.constraint.specs.declared.Word.{Word}
 use Rattle.constraint.proofs.Booleans.{and_l, and_r, or_l, or_r}
 use Rattle.constraint.proofs.Demand3.{clocks_pass, named_pass, record_passes, once_passes, used_passes, later_pass}
-use Rattle.constraint.specs.contracts.Kind as kind
 use Rattle.constraint.proofs.Laws.{due_none}
 use Rattle.constraint.proofs.Named.{due_looks}
 use Rattle.constraint.proofs.OneMore.{known_still}
@@ -112,12 +109,6 @@ by_implied n r w F P z s = go r.kind refl
         there true e u = z
         there false e true = s k q e
         there false e false = z
-
--- what is no definition makes none tick; the numbers are the places of the other variants
-pub implied_other : (n : ℕ) (k : Kind) (w : Word) (a b : Bool) (c : ℕ) → OneOf (0 ∷ 1 ∷ []) (tag_of kind.the_type k) → implied n k w a b c ≡ []
-implied_other n Empty w a b c h = refl
-implied_other n (Relates k) w a b c h = refl
-implied_other n (Defines k) w a b c h = absurd (miss (0 ∷ 1 ∷ []) 2 tt h)
 
 implicit_is : (n : ℕ) (r : Constraint) → defines_implicit n r ≡ true → (k : Definition) × (r.kind ≡ Defines k) × (ltb r.defined n ≡ false)
 implicit_is n r m = go r.kind refl
@@ -235,14 +226,14 @@ module _ (clocks : Clocks) (room : clocks.count ≤ 32) where
   abbrev Alike : (G H : Ticks) → Constraint → Word → Type 0
   Alike G H r w = map G (clocks_of r) ≡ map H (clocks_of r)
 
-  kept_later : (rs : List Constraint) (ws : List Word) (E : Ticks) (i f : ℕ) → first_unfit clocks E i rs ≡ Nowhere → (x : ℕ) → settled n' E x ≡ true → bits (completed n' rs ws f) x ≡ bits f x
+  kept_later : (rs : List Constraint) (ws : List Word) (E : Ticks) (i f : ℕ) → first_unfit clocks E i rs ≡ None → (x : ℕ) → settled n' E x ≡ true → bits (completed n' rs ws f) x ≡ bits f x
   kept_later [] ws E i f e x s = refl
   kept_later (r ∷ rs) [] E i f e x s = refl
   kept_later (r ∷ rs) (w ∷ ws) E i f e x s =
       kept_later rs ws (adding_all (defined_of r) E) (suc i) _ (later_pass clocks E i r rs e) x (settled_more n' (defined_of r) E x s)
       ∙ kept clocks room r w f E (record_passes clocks E i r rs e) (once_passes clocks E i r rs e) (used_passes clocks E i r rs e) x s
 
-  all_hold : (rs : List Constraint) (ws : List Word) (E : Ticks) (i f : ℕ) → first_unfit clocks E i rs ≡ Nowhere → ((x : ℕ) → bits f x ≡ true → settled n' E x ≡ true)
+  all_hold : (rs : List Constraint) (ws : List Word) (E : Ticks) (i f : ℕ) → first_unfit clocks E i rs ≡ None → ((x : ℕ) → bits f x ≡ true → settled n' E x ≡ true)
       → ImplicitHold n' rs ws (bits (completed n' rs ws f))
   all_hold [] ws E i f e s = each_none (Holding (bits f)) ws
   all_hold (r ∷ rs) [] E i f e s = each_wordless (Holding (bits f)) (r ∷ rs)
@@ -256,7 +247,7 @@ module _ (clocks : Clocks) (room : clocks.count ≤ 32) where
       (one_holds clocks room r w f E ok once used s _ (kept_later rs ws (adding_all (defined_of r) E) (suc i) g later))
       (all_hold rs ws (adding_all (defined_of r) E) (suc i) g later (sound_next clocks room r w f E ok once used s))
 
-  all_only : (rs : List Constraint) (ws : List Word) (E : Ticks) (i f : ℕ) → first_unfit clocks E i rs ≡ Nowhere → ((x : ℕ) → bits f x ≡ true → settled n' E x ≡ true)
+  all_only : (rs : List Constraint) (ws : List Word) (E : Ticks) (i f : ℕ) → first_unfit clocks E i rs ≡ None → ((x : ℕ) → bits f x ≡ true → settled n' E x ≡ true)
       → (H : Ticks) → ((x : ℕ) → settled n' E x ≡ true → H x ≡ bits f x) → ImplicitHold n' rs ws H → Each (Alike (bits (completed n' rs ws f)) H) rs ws
   all_only [] ws E i f e s H a h = each_none (Alike (bits f) H) ws
   all_only (r ∷ rs) [] E i f e s H a h = each_wordless (Alike (bits f) H) (r ∷ rs)
@@ -272,7 +263,7 @@ module _ (clocks : Clocks) (room : clocks.count ≤ 32) where
       (map_same n' E' (bits (completed n' rs ws g)) H (λ x u. kept_later rs ws E' (suc i) g later x u ∙ sym (more x u)) (clocks_of r) (names_settled n' E r used))
       (all_only rs ws E' (suc i) g later (sound_next clocks room r w f E ok once used s) H more (each_later (Holding H) r rs w ws h))
 
-  all_below_lem : (rs : List Constraint) (ws : List Word) (E : Ticks) (i f : ℕ) → first_unfit clocks E i rs ≡ Nowhere → f < 2 ^ clocks.count → completed n' rs ws f < 2 ^ clocks.count
+  all_below_lem : (rs : List Constraint) (ws : List Word) (E : Ticks) (i f : ℕ) → first_unfit clocks E i rs ≡ None → f < 2 ^ clocks.count → completed n' rs ws f < 2 ^ clocks.count
   all_below_lem [] ws E i f e l = l
   all_below_lem (r ∷ rs) [] E i f e l = l
   all_below_lem (r ∷ rs) (w ∷ ws) E i f e l =
@@ -280,14 +271,14 @@ module _ (clocks : Clocks) (room : clocks.count ≤ 32) where
       (by_implied n' r w (bits f) (λ ks. with_ticks f ks < 2 ^ clocks.count) l (λ k q p. with_tick_below f r.defined clocks.count l (defined_below clocks.count r k (record_passes clocks E i r rs e) q)))
 
   -- what a record sees in the set completed up to and with itself is what it sees in the whole completed set
-  pub reached_same : (r : Constraint) (rs : List Constraint) (w : Word) (ws : List Word) (E : Ticks) (i f : ℕ) → first_unfit clocks E i (r ∷ rs) ≡ Nowhere
+  pub reached_same : (r : Constraint) (rs : List Constraint) (w : Word) (ws : List Word) (E : Ticks) (i f : ℕ) → first_unfit clocks E i (r ∷ rs) ≡ None
       → map (bits (with_ticks f (implied_of n' r w (bits f)))) (clocks_of r) ≡ map (bits (completed n' (r ∷ rs) (w ∷ ws) f)) (clocks_of r)
   reached_same r rs w ws E i f e =
       let E' = adding_all (defined_of r) E in
       sym (map_same n' E' _ _ (kept_later rs ws E' (suc i) _ (later_pass clocks E i r rs e)) (clocks_of r) (names_settled n' E r (used_passes clocks E i r rs e)))
 
 -- ---- of a list that 59 lets pass
-module _ (clocks : Clocks) (rs : List Constraint) (ws : List Word) (f : ℕ) (e : broken_record clocks rs ≡ Nowhere) where
+module _ (clocks : Clocks) (rs : List Constraint) (ws : List Word) (f : ℕ) (e : broken_record clocks rs ≡ None) where
   -- the completed set is a set of clocks below the clock count
   pub completed_below : f < 2 ^ clocks.named → completed clocks.named rs ws f < 2 ^ clocks.count
   completed_below l = let p = clocks_pass clocks rs e in all_below_lem clocks p.0 rs ws none 1 f p.1 (lt_of_lt_of_le l (pow_mono (named_pass clocks rs e)))
@@ -296,7 +287,7 @@ module _ (clocks : Clocks) (rs : List Constraint) (ws : List Word) (f : ℕ) (e 
   pub completed_flat : clocks.named ≡ clocks.count → completed clocks.named rs ws f ≡ f
   completed_flat all = go rs ws none 1 (clocks_pass clocks rs e).1
     where
-      go : (rs : List Constraint) (ws : List Word) (E : Ticks) (i : ℕ) → first_unfit clocks E i rs ≡ Nowhere → completed clocks.named rs ws f ≡ f
+      go : (rs : List Constraint) (ws : List Word) (E : Ticks) (i : ℕ) → first_unfit clocks E i rs ≡ None → completed clocks.named rs ws f ≡ f
       go [] ws E i e = refl
       go (r ∷ rs) [] E i e = refl
       go (r ∷ rs) (w ∷ ws) E i e =

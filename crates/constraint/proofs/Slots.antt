@@ -7,9 +7,9 @@ use Prim.Native.Nat.{ℕ, zero, suc, ◌≤◌, ◌<◌}
 use native.Mathlib.Omega.{arith}
 use lib.ListN.{length, drop, get_or, set}
 use lib.Seq.{drop-nil}
+use Rattle.std.specs.Prelude.{None}
 use Rattle.constraint.specs.Lists.{empty, slots, first_out}
 use Rattle.constraint.specs.Meaning.{in_range}
-use Rattle.constraint.specs.declared.Broken.TheVariants.{Nowhere}
 use Rattle.constraint.specs.declared.Constraint.{Constraint}
 use Rattle.constraint.specs.declared.Word.{Word}
 use Rattle.constraint.proofs.Demand3.{nowhere}
@@ -83,7 +83,7 @@ slots_slots (suc n) (r ∷ rs) h = ap (λ ss. r ∷ ss) (slots_slots n rs (omega
 
 pub slot_in_range :
     (k n : ℕ) (rs : List Constraint) (ws : List Word) (i : ℕ) (d : Constraint) (v : Word)
-    → first_out k (slots n rs) ws ≡ Nowhere → i < n → i < length rs → i < length ws → in_range (get_or rs i d) (get_or ws i v) ≡ true
+    → first_out k (slots n rs) ws ≡ None → i < n → i < length rs → i < length ws → in_range (get_or rs i d) (get_or ws i v) ≡ true
 slot_in_range k zero rs ws i d v e more slot inside = absurd (omega arith)
 slot_in_range k (suc n) [] ws i d v e more slot inside = absurd (omega arith)
 slot_in_range k (suc n) (r ∷ rs) [] i d v e more slot inside = absurd (omega arith)

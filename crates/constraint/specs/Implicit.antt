@@ -1,11 +1,10 @@
 -- Implicit clocks: those with numbers from the named count on. They are not recorded; each step works out their ticks, so that their definitions
 -- hold (document 02, M-101). Assumes nothing.
-use Rattle.std.specs.Prelude.{◌≡◌, refl, Bool, true, false, not, cond, ◌&&◌, List, [], ◌∷◌, map, ℕ, ◌^◌, ◌<◌, ltb, pos, length}
+use Rattle.std.specs.Prelude.{None, ◌≡◌, refl, Bool, true, false, not, cond, ◌&&◌, List, [], ◌∷◌, map, ℕ, ◌^◌, ◌<◌, ltb, pos, length}
 use Rattle.constraint.specs.Lists.{broken_record, start_words}
 use Rattle.constraint.specs.Meaning.{word, due, holds, defined_of, clocks_of}
 use Rattle.constraint.specs.SamePlace.{record_at, word_at}
 use Rattle.constraint.specs.Ticks.{Ticks, Below, any, bits, with_ticks}
-use Rattle.constraint.specs.declared.Broken.TheVariants.{Nowhere}
 use Rattle.constraint.specs.declared.Clocks.{Clocks}
 use Rattle.constraint.specs.declared.Constraint.{Constraint}
 use Rattle.constraint.specs.declared.Definition.TheVariants.{Union, Upto}
@@ -61,7 +60,7 @@ pub record Completes (clocks : Clocks) (rs : List Constraint) (ws : List Word) (
 
 -- of any records that 59 lets pass, any words, and any tick set that 61 lets pass
 abbrev pub OfSteps : ((clocks : Clocks) (rs : List Constraint) (ws : List Word) (f : ℕ) → Type 0) → Type 0
-OfSteps P = (clocks : Clocks) (rs : List Constraint) (ws : List Word) (f : ℕ) → broken_record clocks rs ≡ Nowhere → f < 2 ^ clocks.named → P clocks rs ws f
+OfSteps P = (clocks : Clocks) (rs : List Constraint) (ws : List Word) (f : ℕ) → broken_record clocks rs ≡ None → f < 2 ^ clocks.named → P clocks rs ws f
 
 -- the claims: the completed set completes the tick set; in it no record that fails defines an implicit clock
 abbrev pub EveryStepCompletes : Type 0
@@ -77,12 +76,12 @@ nested_clocks = record { named = 4; count = 6 }
 
 abbrev pub nested_records : List Constraint
 nested_records =
-    record { kind = Defines Union; defined = 4; first = 0; second = 1; parameter = record { 0 = 0 }; line = record { 0 = 1 } } ∷
-    record { kind = Defines Upto; defined = 5; first = 4; second = 2; parameter = record { 0 = 0 }; line = record { 0 = 1 } } ∷
-    record { kind = Relates Precedes; defined = 0; first = 5; second = 3; parameter = record { 0 = 0 }; line = record { 0 = 1 } } ∷
+    record { kind = Defines Union; defined = 4; first = 0; second = 1; line = record { 0 = 1 } } ∷
+    record { kind = Defines Upto; defined = 5; first = 4; second = 2; line = record { 0 = 1 } } ∷
+    record { kind = Relates Precedes; defined = 0; first = 5; second = 3; line = record { 0 = 1 } } ∷
     []
 
-nested_passes : broken_record nested_clocks nested_records ≡ Nowhere
+nested_passes : broken_record nested_clocks nested_records ≡ None
 nested_passes = refl
 
 -- none; {a}, with both; {a, c}, in which upto ends; {d}

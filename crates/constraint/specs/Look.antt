@@ -1,22 +1,17 @@
 -- Of the code's shape: what a step comes to for one record and its word, and how a record fits those before it, each as one answer. Assumes
 -- nothing.
-use Rattle.std.specs.Prelude.{Bool, true, false, not, ◌&&◌, ℕ, ◌<◌, leb, nat_abs}
-use Rattle.std.specs.Int.Signed.{mag}
+use Rattle.std.specs.Prelude.{pos, Bool, true, false, not, ◌&&◌, ℕ}
+use Rattle.std.specs.Int.Signed.{le_z}
 use Rattle.constraint.specs.Lists.{all_known}
-use Rattle.constraint.specs.Meaning.{change, moved, counter_range, fits, in_range, holds, next_word, well_formed, defined_of, used_of}
+use Rattle.constraint.specs.Meaning.{between, change, moved, counter_range, fits, in_range, holds, next_word, well_formed, defined_of, used_of}
 use Rattle.constraint.specs.Million.{within_million, in_million}
 use Rattle.constraint.specs.Ticks.{Ticks, any, bits, with_ticks}
-use Rattle.constraint.specs.declared.Change.{Change}
-use Rattle.constraint.specs.declared.Change.TheVariants.{Keep}
 use Rattle.constraint.specs.declared.Clocks.{Clocks}
 use Rattle.constraint.specs.declared.Constraint.{Constraint}
 use Rattle.constraint.specs.declared.Counter.{Counter}
-use Rattle.constraint.specs.declared.Counter.TheVariants.{Fixed, Gap, Lead, Countdown, StrictSample, Sample, Until, Pending}
 use Rattle.constraint.specs.declared.Fitted.{Fitted}
 use Rattle.constraint.specs.declared.Seen.{Seen}
 use Rattle.constraint.specs.declared.Seen.TheVariants.{Out, Fails, Leaves, Moves}
-use Rattle.constraint.specs.declared.Parameter.{Parameter}
-use Rattle.constraint.specs.declared.Range.{Range}
 use Rattle.constraint.specs.declared.Word.{Word}
 
 -- by whether the word is in range, the record holds, and the word v after the step is within its million
@@ -31,28 +26,8 @@ abbrev pub looked : Constraint → Word → Ticks → Seen
 looked r w F = seen (in_range r w) (holds r w F) (in_million r (next_word r w F)) (next_word r w F)
 
 -- of a counter, by whether the record holds and a and b tick
-abbrev pub weighed : Counter → Parameter → (holds a b : Bool) → Word → Seen
-weighed c n h a b w = seen (fits (counter_range c n) w) h (within_million c (moved (change c n w a b) w)) (moved (change c n w a b) w)
-
--- what a step does to a word of one that counts: of any but a delay, whose list is not asked
-abbrev pub counting : Counter → Word → (a b : Bool) → Change
-counting Fixed w a b = change Fixed (record { 0 = 0 }) w a b
-counting Gap w a b = change Gap (record { 0 = 0 }) w a b
-counting Lead w a b = change Lead (record { 0 = 0 }) w a b
-counting Countdown w a b = change Countdown (record { 0 = 0 }) w a b
-counting StrictSample w a b = change StrictSample (record { 0 = 0 }) w a b
-counting Sample w a b = change Sample (record { 0 = 0 }) w a b
-counting Until w a b = change Until (record { 0 = 0 }) w a b
-counting Pending w a b = Keep
-
--- at most a million from 0
-abbrev pub near_zero : Word → Bool
-near_zero w = leb (nat_abs w.0) 1_000_000
-
--- a range from which a word can be moved
-pub record Narrow (s : Range) : Type 0 where
-  pub low : mag s.low < 1099511627776
-  pub high : mag s.high < 1099511627776
+abbrev pub weighed : Counter → (holds a b : Bool) → Word → Seen
+weighed c h a b w = seen (fits (counter_range c) w) h (within_million c (moved (change c w a b) w)) (moved (change c w a b) w)
 
 -- limit 59 of a record among so many clocks, but for the number of records and for what it uses; earlier has the clocks that those before it define
 abbrev pub fitted_among : (clocks earlier : ℕ) → Constraint → Fitted
@@ -65,3 +40,7 @@ fitted clocks earlier r =
       fits = well_formed clocks.count r && (not (any (bits earlier) (defined_of r)) && all_known clocks.named (bits earlier) (used_of r));
       defined = with_ticks earlier (defined_of r);
     }
+
+-- both words of a delay
+abbrev pub delay_words : Word → Bool
+delay_words w = between (pos 0) (pos 4_294_967_295) w.first && le_z (pos 0) w.second

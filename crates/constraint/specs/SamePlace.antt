@@ -1,5 +1,5 @@
 -- The same-place question and demand 3: document 01, "Same place". Assumes nothing.
-use Rattle.std.specs.Prelude.{◌≡◌, refl, ◌↔◌, Bool, true, false, not, cond, ◌&&◌, List, [], ◌∷◌, map, ℕ, ◌<◌, eqb, ℤ, pos, negsuc, length, get_or}
+use Rattle.std.specs.Prelude.{None, Option, Some, Result, Ok, Err, ◌≡◌, refl, ◌↔◌, Bool, true, false, not, cond, ◌&&◌, List, [], ◌∷◌, map, ℕ, ◌<◌, eqb, ℤ, pos, negsuc, length, get_or}
 use Rattle.limit.specs.Limit.{number_of}
 use Rattle.limit.specs.declared.Limit.{Limit}
 use Rattle.limit.specs.declared.Limit.TheVariants.{Records, ConfigurationWord}
@@ -8,14 +8,13 @@ use Rattle.constraint.specs.Edges.{a, b, constraint, set}
 use Rattle.constraint.specs.Lists.{empty, counting, broken_record, broken_word}
 use Rattle.constraint.specs.Meaning.{word, holds, next_word}
 use Rattle.constraint.specs.Ticks.{Ticks, Below}
-use Rattle.constraint.specs.declared.Broken.{Broken}
-use Rattle.constraint.specs.declared.Broken.TheVariants.{Nowhere, At}
 use Rattle.constraint.specs.declared.Clocks.{Clocks}
 use Rattle.constraint.specs.declared.Constraint.{Constraint}
 use Rattle.constraint.specs.declared.Kind.TheVariants.{Relates}
 use Rattle.constraint.specs.declared.Relation.TheVariants.{Precedes}
-use Rattle.constraint.specs.declared.SamePlace.{SamePlace}
-use Rattle.constraint.specs.declared.SamePlace.TheVariants.{Refused, Same, Different}
+use Rattle.limit.specs.declared.Refusal.{Refusal}
+use Rattle.constraint.specs.declared.Likeness.{Likeness}
+use Rattle.constraint.specs.declared.Likeness.TheVariants.{Same, Different}
 use Rattle.constraint.specs.declared.Word.{Word}
 
 -- ---- the answer
@@ -26,18 +25,18 @@ pub data Answer : Type 0 where
   same : Answer
   different : Answer
 
-abbrev pub answer : SamePlace → Answer
-answer (Refused r) = refused (number_of r.limit) r.place.0
-answer Same = same
-answer Different = different
+abbrev pub answer : Result Likeness Refusal → Answer
+answer (Err r) = refused (number_of r.limit) r.place.0
+answer (Ok Same) = same
+answer (Ok Different) = different
 
 -- the claim: no two values of the answer in code have one meaning
 abbrev pub AnswerDetermines : Type 0
-AnswerDetermines = (x y : SamePlace) → answer x ≡ answer y → x ≡ y
+AnswerDetermines = (x y : Result Likeness Refusal) → answer x ≡ answer y → x ≡ y
 
-abbrev pub refuse_at : Limit → Broken → Answer → Answer
-refuse_at l Nowhere otherwise = otherwise
-refuse_at l (At p) otherwise = refused (number_of l) p.0
+abbrev pub refuse_at : Limit → Option Place → Answer → Answer
+refuse_at l None otherwise = otherwise
+refuse_at l (Some p) otherwise = refused (number_of l) p.0
 
 abbrev pub same_integer : ℤ → ℤ → Bool
 same_integer (pos m) (pos n) = eqb m n
@@ -46,7 +45,7 @@ same_integer (negsuc m) (pos n) = false
 same_integer (negsuc m) (negsuc n) = eqb m n
 
 abbrev pub same_word : Word → Word → Bool
-same_word w v = same_integer w.0 v.0
+same_word w v = same_integer w.first v.first && same_integer w.second v.second
 
 abbrev pub same_words : List Word → List Word → Bool
 same_words [] [] = true
@@ -65,9 +64,9 @@ same_place_of clocks rs ws vs =
 -- ---- when it is refused: 59; 60 of the first configuration; 60 of the second; each where those before it are kept
 
 pub data SamePlaceRefuses (clocks : Clocks) (rs : List Constraint) (ws vs : List Word) : (number place : ℕ) → Type 0 where
-  by_records : {p : Place} → broken_record clocks rs ≡ At p → SamePlaceRefuses clocks rs ws vs (number_of Records) p.0
-  by_first : {p : Place} → broken_record clocks rs ≡ Nowhere → broken_word rs ws ≡ At p → SamePlaceRefuses clocks rs ws vs (number_of ConfigurationWord) p.0
-  by_second : {p : Place} → broken_record clocks rs ≡ Nowhere → broken_word rs ws ≡ Nowhere → broken_word rs vs ≡ At p → SamePlaceRefuses clocks rs ws vs (number_of ConfigurationWord) p.0
+  by_records : {p : Place} → broken_record clocks rs ≡ Some p → SamePlaceRefuses clocks rs ws vs (number_of Records) p.0
+  by_first : {p : Place} → broken_record clocks rs ≡ None → broken_word rs ws ≡ Some p → SamePlaceRefuses clocks rs ws vs (number_of ConfigurationWord) p.0
+  by_second : {p : Place} → broken_record clocks rs ≡ None → broken_word rs ws ≡ None → broken_word rs vs ≡ Some p → SamePlaceRefuses clocks rs ws vs (number_of ConfigurationWord) p.0
 
 -- the claim: exactly then, and with that number and place
 abbrev pub SamePlaceRefused : Type 0
@@ -112,9 +111,9 @@ SomeApart clocks rs ws vs = (i : ℕ) × (i < length rs) × Apart clocks (record
 -- some record tells the two apart
 abbrev pub Demand3 : Clocks → List Constraint → (first second : List Word) → Answer → Type 0
 Demand3 clocks rs ws vs said =
-    broken_record clocks rs ≡ Nowhere →
-    broken_word rs ws ≡ Nowhere →
-    broken_word rs vs ≡ Nowhere →
+    broken_record clocks rs ≡ None →
+    broken_word rs ws ≡ None →
+    broken_word rs vs ≡ None →
     (said ≡ same ↔ AllAlike clocks rs ws vs) × (said ≡ different ↔ SomeApart clocks rs ws vs)
 
 -- the claim: demand 3 holds of the definition's answer, for all records and all configurations

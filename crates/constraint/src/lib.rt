@@ -2,25 +2,21 @@
 // configurations are. The same-place question, of which this crate has the definition and what its answer means.
 #![tactic(auto)]
 
+mod delays;
 mod implicit;
-mod pair;
 mod place;
 mod rule;
 mod tick_set;
 
+pub use delays::Delays;
 pub use implicit::with_implied;
-use limit::{Place, Refusal};
-pub use pair::{first, paired, second};
-pub use place::{
-    broken_record, broken_word, counts_fit, defines_again, empty, fit, fit_among, same_word,
-    start_words, with_defined,
-};
-pub use rule::{in_range, list_length, look, magnitude, start};
-pub use tick_set::{ticks, with_tick};
+use limit::Place;
+pub use place::{broken_record, broken_word, same_word};
+pub use tick_set::TickSet;
 
 // The relations, in the order of document 01's table: `a = b`, `a # b`, `a isSubClockOf b`, `a strictly precedes b`,
 // `a precedes b`.
-#[derive(Clone, Copy)]
+#[derive(Clone, Copy, Debug, PartialEq, Eq)]
 pub enum Relation {
     Coincides,
     Excludes,
@@ -30,98 +26,86 @@ pub enum Relation {
 }
 
 // The right sides of `c clockDef`, in the order of document 01's table: `a clockUnion b`, `a clockInter b`, `a lub b`,
-// `a glb b`, `await n a`, `a strictly sampled b`, `a sampled b`, `a upto b`; and document 02's `a deferred b for n ..`.
-#[derive(Clone, Copy)]
+// `a glb b`, `await n a`, `a strictly sampled b`, `a sampled b`, `a upto b`; and document 02's `a deferred b for n ..`. An await has its number
+// and a delay its list.
+#[derive(Clone, Copy, Debug, PartialEq, Eq)]
 pub enum Definition {
     Union,
     Inter,
     Lub,
     Glb,
-    Await,
+    Await(u64),
     StrictlySampled,
     Sampled,
     Upto,
-    Deferred,
+    Deferred(Delays),
 }
 
 // The form of a constraint: one of the 14, or none, in a slot that has no constraint.
-#[derive(Clone, Copy)]
+#[derive(Clone, Copy, Debug, PartialEq, Eq)]
 pub enum Kind {
     Empty,
     Relates(Relation),
     Defines(Definition),
 }
 
-// The number n of an await. The list of a delay: one number a byte, the first in the lowest, up to a byte that is 0 or to the eighth. Any
-// number in every other form, where it means nothing.
-#[derive(Clone, Copy)]
-pub struct Parameter(pub u64);
-
-// A constraint, with the numbers of its clocks: c, which it defines, a and b. A form looks only at those that it names.
-#[derive(Clone, Copy)]
+// A constraint, with the numbers of its clocks: c, which it defines, a and b. A form looks only at those that it names. The clocks stand beside the
+// form and not in it: document 01's record has them so, and C hands in all three with every form.
+#[derive(Clone, Copy, Debug, PartialEq, Eq)]
 pub struct Constraint {
     pub kind: Kind,
     pub defined: u8,
     pub first: u8,
     pub second: u8,
-    pub parameter: Parameter,
     pub line: Place,
 }
 
 // How many clocks of the records are named, which have the lowest numbers, and how many clocks there are, with the implicit ones behind them.
-#[derive(Clone, Copy)]
+#[derive(Clone, Copy, Debug, PartialEq, Eq)]
 pub struct Clocks {
     pub named: u8,
     pub count: u8,
 }
 
 // A constraint's part of a configuration, which is two words: w of document 01's table and 0; of a delay the pending ticks, bit k - 1 for the
-// k-th next tick of b, and how many numbers of its list are used. Both stand in one number, the first and 2^32 times the second; a number
-// below 0 is the first alone.
-#[derive(Clone, Copy)]
-pub struct Word(pub i64);
+// k-th next tick of b, and how many numbers of its list are used.
+#[derive(Clone, Copy, Debug, PartialEq, Eq)]
+pub struct Word {
+    pub first: i64,
+    pub second: i64,
+}
 
 // The two words of each constraint in table order; the rest are 0.
-#[derive(Clone, Copy)]
+#[derive(Clone, Copy, Debug, PartialEq, Eq)]
 pub struct Configuration {
     pub words: [Word; 64],
 }
 
-// How a form counts in its word: the third column of document 01's table.
-#[derive(Clone, Copy)]
+// How a form counts in its word: the third column of document 01's table, named there row by row, so that no closure is plainer.
+#[derive(Clone, Copy, Debug, PartialEq, Eq)]
 pub enum Counter {
     Fixed,
     Gap,
     Lead,
-    Countdown,
+    Countdown(u64),
     StrictSample,
     Sample,
     Until,
-    Pending,
+    Pending(Delays),
 }
 
-// A counter's start, and its range from low to high.
-#[derive(Clone, Copy)]
+// A counter's start, its first word's range from low to high, and its second word's from 0.
+#[derive(Clone, Copy, Debug, PartialEq, Eq)]
 pub struct Range {
     pub start: i64,
     pub low: i64,
     pub high: i64,
-}
-
-// What a step does to a word.
-#[derive(Clone, Copy)]
-pub enum Change {
-    Keep,
-    Up,
-    Down,
-    Zero,
-    One,
-    Becomes(Word),
+    pub most_used: i64,
 }
 
 // What a step comes to for a record and its word: the word is out of range; the record fails; or it holds, and this is the word after the
-// step, past its million or within it.
-#[derive(Clone, Copy)]
+// step, past its million or within it. Two of the four have a word, so that a Result is no plainer.
+#[derive(Clone, Copy, Debug, PartialEq, Eq)]
 pub enum Seen {
     Out,
     Fails,
@@ -129,24 +113,17 @@ pub enum Seen {
     Moves(Word),
 }
 
-// Whether a record fits the clock counts and the records before it, and the clocks that it or they define.
-#[derive(Clone, Copy)]
+// Whether a record fits the clock counts and the records before it, and the clocks that it or they define. The clocks are needed whether it fits
+// or not, so that an Option is no plainer.
+#[derive(Clone, Copy, Debug, PartialEq, Eq)]
 pub struct Fitted {
     pub fits: bool,
-    pub defined: u32,
+    pub defined: TickSet,
 }
 
-// The lowest place at which a list breaks a limit, if there is one.
-#[derive(Clone, Copy)]
-pub enum Broken {
-    Nowhere,
-    At(Place),
-}
-
-// The answer to the same-place question.
-#[derive(Clone, Copy)]
-pub enum SamePlace {
-    Refused(Refusal),
+// Where the same-place question is not refused: whether the configurations are one place.
+#[derive(Clone, Copy, Debug, PartialEq, Eq)]
+pub enum Likeness {
     Same,
     Different,
 }

@@ -9,29 +9,27 @@ use native.Mathlib.Omega.{arith}
 use borrow.Author.Tests.{lt-leb, ltb-false}
 use lib.Dec.{leb, ltb}
 use lib.ListN.{length, length-map}
-use Rattle.constraint.specs.Meaning.{packed}
 use Rattle.constraint.specs.declared.Definition.{Definition}
 use Rattle.constraint.specs.declared.Definition.TheVariants.{Union, Inter, Lub, Glb, Await as AwaitKind, StrictlySampled, Sampled, Upto, Deferred}
 use Rattle.constraint.specs.declared.Kind.{Kind}
 use Rattle.constraint.specs.declared.Kind.TheVariants.{Empty, Relates, Defines}
-use Rattle.constraint.specs.declared.Parameter.{Parameter}
 use Rattle.constraint.specs.declared.Relation.{Relation}
 use Rattle.constraint.specs.declared.Relation.TheVariants.{Coincides, Excludes, SubClock, StrictlyPrecedes, Precedes}
 use Rattle.constraint.proofs.Booleans.{and_l, and_r}
 use Rattle.text.specs.Ascii.{ascii}
 use Rattle.text.specs.Bytes.{same_bytes}
-use Rattle.text.specs.Digits.{value}
+use Rattle.std.specs.Prelude.{Ok, Err}
+use Rattle.text.specs.Digits.{value, over_at, read_decimal}
 use Rattle.text.specs.Split.{bytes_of, front, rest}
-use Rattle.text.specs.declared.Number.TheVariants.{TooLarge, Value}
+use Rattle.text.specs.declared.Spoilt.TheVariants.{TooLarge}
 use Rattle.text.specs.declared.Span.{Span}
-use Rattle.text.proofs.Decimals.{number_digits}
 use Rattle.grammar.specs.Building.{defining}
 use Rattle.grammar.specs.Grammar.{Parsed, no_form, parsed, only_if, Placed, Formed, Operands, token, kind_at, is_kind, up_to, number_up_to, await_number, sides, delay_numbers, past_digits, all_delays, listed, is_deferred, is_delay, tail, second, pair, await_side, expression, is_side, at_end, closed, line_form}
 use Rattle.grammar.specs.Tokens.{is, token_of, look_up}
 use Rattle.grammar.specs.declared.Token.TheVariants.{Name, Digits, ClockDef, Await, For}
 use Rattle.grammar.proofs.GrammarLaws.{Each, each_only, each_then, end_token, tail_none, tail_list, await_some, pair_some, line_defines, line_relates, closed_some}
 use Rattle.grammar.proofs.KindLaws.{not_await, kind_plain}
-use Rattle.grammar.proofs.ListLaws.{run_first, run_past, run_none}
+use Rattle.grammar.proofs.ListLaws.{run_first, run_past, run_none, none_past}
 use Rattle.grammar.proofs.TokenLaws.{told_apart}
 use Rattle.forms.specs.Forms.{Word, Words, is_name, is_digits, all_digits, Right, both, awaits, delays, Form, relates, defines, IsRight, union, inter, lub, glb, await, strictly_sampled, sampled, upto, deferred, IsForm, coincides, excludes, sub_clock, strictly_precedes, precedes, clock_def}
 use Rattle.forms.proofs.FormShapes.{NoRun}
@@ -43,11 +41,11 @@ abbrev pub cut_above : (most : ℕ) → ℕ → ℕ
 cut_above most n = cond (leb n most) n 0
 
 pub run_value : (most : ℕ) → most < 2 ^ 64 → (ds : Word) → is_digits ds ≡ true → number_up_to most ds ≡ cut_above most (value 0 ds)
-unfolding is_digits
+unfolding is_digits read_decimal
 run_value most m [] e = absurd (false≢true e)
-run_value most m (d ∷ ds) e = ap (up_to most) (number_digits (d ∷ ds) (λ z. omega arith) e) ∙ go (ltb (value 0 (d ∷ ds)) (2 ^ 64)) refl
+run_value most m (d ∷ ds) e = rw e (go (ltb (value 0 (d ∷ ds)) (2 ^ 64)) refl)
   where
-    go : (x : Bool) → ltb (value 0 (d ∷ ds)) (2 ^ 64) ≡ x → up_to most (cond x (Value (value 0 (d ∷ ds))) TooLarge) ≡ cut_above most (value 0 (d ∷ ds))
+    go : (x : Bool) → ltb (value 0 (d ∷ ds)) (2 ^ 64) ≡ x → up_to most (cond x (Ok (value 0 (d ∷ ds))) (Err (TooLarge (over_at 0 0 (d ∷ ds))))) ≡ cut_above most (value 0 (d ∷ ds))
     go true q = refl
     go false q =
         let h : 2 ^ 64 ≤ value 0 (d ∷ ds) = ltb-false (value 0 (d ∷ ds)) (2 ^ 64) q in
@@ -82,8 +80,8 @@ cut_none (n ∷ ns) a =
 pub listed_cut : (ns : List ℕ) → listed (map (cut_above 32) ns) ≡ listed ns
 listed_cut ns = rw (length-map ns (cut_above 32), cut_delays ns) (go (leb 1 (length ns) && leb (length ns) 8) (all_delays ns) refl)
   where
-    go : (x y : Bool) → all_delays ns ≡ y → cond (x && y) (packed (map (cut_above 32) ns)) 0 ≡ cond (x && y) (packed ns) 0
-    go true true q = ap packed (cut_none ns q)
+    go : (x y : Bool) → all_delays ns ≡ y → cond (x && y) (map (cut_above 32) ns) [] ≡ cond (x && y) ns []
+    go true true q = cut_none ns q
     go true false q = refl
     go false y q = refl
 
@@ -102,42 +100,44 @@ module _ {O : Type 0} (IsOp : Words → O → Type 0) {a c : Words} {x y : O} (p
   right_row Inter n d = inter p q
   right_row Lub n d = lub p q
   right_row Glb n d = glb p q
-  right_row AwaitKind n d = absurd (false≢true n)
+  right_row (AwaitKind m) n d = absurd (false≢true n)
   right_row StrictlySampled n d = strictly_sampled p q
   right_row Sampled n d = sampled p q
   right_row Upto n d = upto p q
-  right_row Deferred n d = absurd (true≢false d)
+  right_row (Deferred ms) n d = absurd (true≢false d)
 
--- a kind that is a delay is that one
-delay_kind : (k : Kind) → is_delay k ≡ true → k ≡ Defines Deferred
-delay_kind Empty d = absurd (false≢true d)
-delay_kind (Relates k) d = absurd (false≢true d)
-delay_kind (Defines Union) d = absurd (false≢true d)
-delay_kind (Defines Inter) d = absurd (false≢true d)
-delay_kind (Defines Lub) d = absurd (false≢true d)
-delay_kind (Defines Glb) d = absurd (false≢true d)
-delay_kind (Defines AwaitKind) d = absurd (false≢true d)
-delay_kind (Defines StrictlySampled) d = absurd (false≢true d)
-delay_kind (Defines Sampled) d = absurd (false≢true d)
-delay_kind (Defines Upto) d = absurd (false≢true d)
-delay_kind (Defines Deferred) d = refl
+-- a kind that words say and that is a delay is that one, without a list
+delay_kind : (k : Kind) → not_await k ≡ true → is_delay k ≡ true → k ≡ Defines (Deferred [])
+unfolding not_await
+delay_kind Empty n d = absurd (false≢true d)
+delay_kind (Relates k) n d = absurd (false≢true d)
+delay_kind (Defines Union) n d = absurd (false≢true d)
+delay_kind (Defines Inter) n d = absurd (false≢true d)
+delay_kind (Defines Lub) n d = absurd (false≢true d)
+delay_kind (Defines Glb) n d = absurd (false≢true d)
+delay_kind (Defines (AwaitKind m)) n d = absurd (false≢true d)
+delay_kind (Defines StrictlySampled) n d = absurd (false≢true d)
+delay_kind (Defines Sampled) n d = absurd (false≢true d)
+delay_kind (Defines Upto) n d = absurd (false≢true d)
+delay_kind (Defines (Deferred [])) n d = refl
+delay_kind (Defines (Deferred (m ∷ ms))) n d = absurd (false≢true n)
 
 -- ---- what forms come to: placed operand by operand
 abbrev pub of_clock : {S : Type 0} → ℕ → Formed S → Formed S
 of_clock c f = record { left = f.left; constraint = defining c f.constraint }
 
 module _ {S O : Type 0} (placed : S → O → Placed S) where
-  abbrev pub pair_of : S → Kind → O → O → Parameter → Formed S
-  pair_of s k x y n = record { left = (placed (placed s x).left y).left; constraint = sides k (placed s x).clock (placed (placed s x).left y).clock n }
+  abbrev pub pair_of : S → Kind → O → O → Formed S
+  pair_of s k x y = record { left = (placed (placed s x).left y).left; constraint = sides k (placed s x).clock (placed (placed s x).left y).clock }
 
   abbrev pub right_of : S → Right O → Formed S
-  right_of s (both k x y) = pair_of s (Defines k) x y (record { 0 = 0 })
-  right_of s (awaits n x) = record { left = (placed s x).left; constraint = sides (Defines AwaitKind) (placed s x).clock 0 (record { 0 = parameter_of n }) }
-  right_of s (delays ns x y) = pair_of s (Defines Deferred) x y (record { 0 = listed ns })
+  right_of s (both k x y) = pair_of s (Defines k) x y
+  right_of s (awaits n x) = record { left = (placed s x).left; constraint = sides (Defines (AwaitKind (parameter_of n))) (placed s x).clock 0 }
+  right_of s (delays ns x y) = pair_of s (Defines (Deferred (listed ns))) x y
 
   -- the clock of a name by its bytes
   abbrev pub form_with : (Word → ℕ) → S → Form O → Formed S
-  form_with named s (relates k x y) = of_clock 0 (pair_of s (Relates k) x y (record { 0 = 0 }))
+  form_with named s (relates k x y) = of_clock 0 (pair_of s (Relates k) x y)
   form_with named s (defines c r) = of_clock (named c) (right_of s r)
 
 -- ---- the list of a delay: its digit runs, as they are read
@@ -164,7 +164,7 @@ runs_sound t (w ∷ ws) = go (is Digits (token_of (bytes_of t w))) refl (runs_so
     go false e h = record { words = []; digits = refl; split = rw e; numbers = rw e }
 
 pub runs_complete : (t : List ℕ) (ns us : Words) → all_digits ns ≡ true → NoRun us → (ws : List Span) → said t ws ≡ ns ++ us → (delay_numbers t ws ≡ map (cut_above 32) (map (value 0) ns)) × (said t (past_digits t ws) ≡ us)
-runs_complete t [] us d f ws e = let h = run_none t ws (no_run us f e) in (h.0, ap (said t) h.1 ∙ e)
+runs_complete t [] us d f ws e = (run_none t ws (no_run us f e), ap (said t) (none_past t ws (no_run us f e)) ∙ e)
   where
     no_run : (us : Words) → NoRun us → said t ws ≡ us → is Digits (token t ws) ≡ false
     no_run [] f e = ap (λ (vs : List Span). is Digits (token t vs)) (none_left t ws e) ∙ ap (is Digits) (end_token t)
@@ -206,7 +206,7 @@ module _ (t : List ℕ) {S O : Type 0} (IsOp : Words → O → Type 0) (placed :
   -- ---- what was read: two operands and a kind that is neither an await nor a delay, a delay, or an await
   pub data SideTaken (s : S) (ws us : List Span) : Formed S → Type 0 where
     of_pair : {a c : Words} {x y : O} {k : Kind} → not_await k ≡ true → is_delay k ≡ false → IsOp a x → IsOp c y → said t ws ≡ a ++ (kind_words k ++ (c ++ said t us))
-        → SideTaken s ws us (pair_of placed s k x y (record { 0 = 0 }))
+        → SideTaken s ws us (pair_of placed s k x y)
     of_delay : {a c : Words} (ns : Words) {x y : O} → IsOp a x → IsOp c y → all_digits ns ≡ true → said t ws ≡ a ++ ascii "deferred" ∷ (c ++ ascii "for" ∷ (ns ++ said t us))
         → SideTaken s ws us (right_of placed s (delays (map (value 0) ns) x y))
     of_await : {n : Word} {a : Words} {x : O} → is_digits n ≡ true → IsOp a x → said t ws ≡ ascii "await" ∷ n ∷ (a ++ said t us) → SideTaken s ws us (right_of placed s (awaits (value 0 n) x))
@@ -221,7 +221,7 @@ module _ (t : List ℕ) {S O : Type 0} (IsOp : Words → O → Type 0) (placed :
 
   -- a side that was read is a right side where it defines a clock
   both_taken : (s : S) (ws us : List Span) (a c : Words) (x y : O) (k : Kind) → not_await k ≡ true → is_delay k ≡ false → IsOp a x → IsOp c y → is_side true k ≡ true → said t ws ≡ a ++ (kind_words k ++ (c ++ said t us))
-      → RightTaken s ws us (pair_of placed s k x y (record { 0 = 0 }))
+      → RightTaken s ws us (pair_of placed s k x y)
   both_taken s ws us a c x y Empty m d p q i e = absurd (false≢true i)
   both_taken s ws us a c x y (Relates k) m d p q i e = absurd (false≢true i)
   both_taken s ws us a c x y (Defines k) m d p q i e = record {
@@ -246,25 +246,25 @@ module _ (t : List ℕ) {S O : Type 0} (IsOp : Words → O → Type 0) (placed :
   right_taken s ws us f (of_await {n = n} {a = a} {x = x} d p e) i = record { words = ascii "await" ∷ n ∷ a; it = awaits (value 0 n) x; split = e; fits = await d p; made = refl }
 
   -- what stands behind two operands
-  data TailTaken (k : Kind) (ws : List Span) : List Span → Parameter → Type 0 where
-    nothing : is_delay k ≡ false → TailTaken k ws ws (record { 0 = 0 })
-    a_list : {us : List Span} (ns : Words) → k ≡ Defines Deferred → all_digits ns ≡ true → said t ws ≡ ascii "for" ∷ (ns ++ said t us) → TailTaken k ws us (record { 0 = listed (map (value 0) ns) })
+  data TailTaken (k : Kind) (ws : List Span) : List Span → Kind → Type 0 where
+    nothing : is_delay k ≡ false → TailTaken k ws ws k
+    a_list : {us : List Span} (ns : Words) → k ≡ Defines (Deferred []) → all_digits ns ≡ true → said t ws ≡ ascii "for" ∷ (ns ++ said t us) → TailTaken k ws us (Defines (Deferred (listed (map (value 0) ns))))
 
-  tail_sound : (k : Kind) (ws : List Span) → Each (λ n us. TailTaken k ws us n) (tail t k ws)
+  tail_sound : (k : Kind) (ws : List Span) → not_await k ≡ true → Each (λ n us. TailTaken k ws us n) (tail t k ws)
   unfolding tail
-  tail_sound k ws = go (is_delay k) refl
+  tail_sound k ws m = go (is_delay k) refl
     where
-      go : (x : Bool) → is_delay k ≡ x → Each (λ n us. TailTaken k ws us n) (cond x (only_if (is For (token t ws)) (parsed (record { 0 = listed (delay_numbers t (rest ws)) }) (past_digits t (rest ws)))) (parsed (record { 0 = 0 }) ws))
+      go : (x : Bool) → is_delay k ≡ x → Each (λ n us. TailTaken k ws us n) (cond x (only_if (is For (token t ws)) (parsed (Defines (Deferred (listed (delay_numbers t (rest ws))))) (past_digits t (rest ws)))) (parsed k ws))
       go true d = each_only (λ n us. TailTaken k ws us n) (is For (token t ws)) _ (λ f.
           let r : Runs t (rest ws) = runs_sound t (rest ws) in
-          rw (r.numbers, listed_cut (map (value 0) r.words)) (a_list r.words (delay_kind k d) r.digits
+          rw (r.numbers, listed_cut (map (value 0) r.words)) (a_list r.words (delay_kind k m d) r.digits
           (some_first t (is For) refl ws f ∙ (λ i. for_word (bytes_of t (front t ws)) f i ∷ r.split i))))
       go false d = nothing d
 
   pair_taken : (s : S) (ws vs : List Span) (k : Kind) (a c : Words) (x y : O) → not_await k ≡ true → IsOp a x → IsOp c y → said t ws ≡ a ++ (kind_words k ++ (c ++ said t vs))
-      → (us : List Span) (n : Parameter) → TailTaken k vs us n → SideTaken s ws us (pair_of placed s k x y n)
+      → (us : List Span) (j : Kind) → TailTaken k vs us j → SideTaken s ws us (pair_of placed s j x y)
   pair_taken s ws vs k a c x y m p q e us n (nothing d) = of_pair m d p q e
-  pair_taken s ws vs k a c x y m p q e us n (a_list ns f d g) = rw f (of_delay ns p q d ((rw f at e) ∙ ap (λ (z : Words). a ++ ascii "deferred" ∷ (c ++ z)) g))
+  pair_taken s ws vs k a c x y m p q e us n (a_list ns f d g) = (of_delay ns p q d ((rw f at e) ∙ ap (λ (z : Words). a ++ ascii "deferred" ∷ (c ++ z)) g))
 
   pub record LineTaken (named : Word → ℕ) (s : S) (ws : List Span) (g : Formed S) (us : List Span) : Type 0 where
     pub none : us ≡ []
@@ -280,7 +280,7 @@ module _ (t : List ℕ) {S O : Type 0} (IsOp : Words → O → Type 0) (placed :
         each_then (OperandTaken s ws) (λ f us. SideTaken s ws us f) (operands s ws) _ (A.sound s ws) (λ a us h.
         each_only (λ f us. SideTaken s ws us f) (is_kind (kind_at t us).kind) _ (λ e.
         each_then (OperandTaken a.left (kind_at t us).after) (λ f us. SideTaken s ws us f) (operands a.left (kind_at t us).after) _ (A.sound a.left (kind_at t us).after) (λ c vs g.
-        each_then (λ n xs. TailTaken (kind_at t us).kind vs xs n) (λ f us. SideTaken s ws us f) (tail t (kind_at t us).kind vs) _ (tail_sound (kind_at t us).kind vs) (λ n xs k.
+        each_then (λ n xs. TailTaken (kind_at t us).kind vs xs n) (λ f us. SideTaken s ws us f) (tail t (kind_at t us).kind vs) _ (tail_sound (kind_at t us).kind vs (kind_plain t us)) (λ n xs k.
         rw (g.made, h.made) (pair_taken s ws vs (kind_at t us).kind h.words g.words h.it g.it (kind_plain t us) h.fits g.fits
         (h.split ∙ ap (λ (z : Words). h.words ++ z) (kind_words_lem t us e ∙ ap (λ (z : Words). kind_words (kind_at t us).kind ++ z) g.split)) xs n k)))))
 
@@ -305,7 +305,7 @@ module _ (t : List ℕ) {S O : Type 0} (IsOp : Words → O → Type 0) (placed :
         go false w = pair_sound s ws
 
     module _ (named : Word → ℕ) (s : S) (ws : List Span) where
-      relation_made : (a c : Words) (x y : O) (k : Kind) → IsOp a x → IsOp c y → is_side false k ≡ true → said t ws ≡ a ++ (kind_words k ++ (c ++ [])) → LineTaken named s ws (of_clock 0 (pair_of placed s k x y (record { 0 = 0 }))) []
+      relation_made : (a c : Words) (x y : O) (k : Kind) → IsOp a x → IsOp c y → is_side false k ≡ true → said t ws ≡ a ++ (kind_words k ++ (c ++ [])) → LineTaken named s ws (of_clock 0 (pair_of placed s k x y)) []
       relation_made a c x y Empty p q i e = absurd (false≢true i)
       relation_made a c x y (Defines k) p q i e = absurd (false≢true i)
       relation_made a c x y (Relates k) p q i e =
@@ -357,8 +357,8 @@ module _ (t : List ℕ) {S O : Type 0} (IsOp : Words → O → Type 0) (placed :
       no_await a us (by_name_lem {n = n} h) e = first_told t Bool (is Await) false ws n us e (told_apart Name Await (token_of n) (name_is n ∙ h))
       no_await a us (by_other {u = u} {us = vs} h k) e = first_told t Bool (is Await) false ws u (vs ++ us) e k
 
-      pair_complete : (k : Kind) (a c : Words) (x y : O) (vs us : Words) (n : Parameter) → is_kind k ≡ true → not_await k ≡ true → IsOp a x → IsOp c y
-          → said t ws ≡ a ++ (kind_words k ++ (c ++ vs)) → ((xs : List Span) → said t xs ≡ vs → Took t (tail t k xs) n us) → Took t (expression t operands s ws) (pair_of placed s k x y n) us
+      pair_complete : (k : Kind) (a c : Words) (x y : O) (vs us : Words) (n : Kind) → is_kind k ≡ true → not_await k ≡ true → IsOp a x → IsOp c y
+          → said t ws ≡ a ++ (kind_words k ++ (c ++ vs)) → ((xs : List Span) → said t xs ≡ vs → Took t (tail t k xs) n us) → Took t (expression t operands s ws) (pair_of placed s n x y) us
       pair_complete k a c x y vs us n i m p q e behind =
           let f : Took t (operands s ws) (placed s x) (kind_words k ++ (c ++ vs)) = A.complete s ws a x (kind_words k ++ (c ++ vs)) p e in
           let g : KindIs t f.left k (c ++ vs) = kind_is t f.left k (c ++ vs) i m f.words in
@@ -370,19 +370,18 @@ module _ (t : List ℕ) {S O : Type 0} (IsOp : Words → O → Type 0) (placed :
             left = j.left;
             words = j.words;
             took =
-                pair_some t operands s ws w (placed s x) f.left f.took (kind_at t f.left) refl (ap is_kind g.kind ∙ i) (placed (placed s x).left y) h.left h.took n j.left (ap (λ (z : Kind). tail t z h.left) g.kind ∙ j.took)
-                ∙ ap (λ (z : Kind). parsed (pair_of placed s z x y n) j.left) g.kind;
+                pair_some t operands s ws w (placed s x) f.left f.took (kind_at t f.left) refl (ap is_kind g.kind ∙ i) (placed (placed s x).left y) h.left h.took n j.left (ap (λ (z : Kind). tail t z h.left) g.kind ∙ j.took);
           }
 
       plain_complete : (k : Kind) (a c : Words) (x y : O) (us : Words) → is_kind k ≡ true → not_await k ≡ true → is_delay k ≡ false → IsOp a x → IsOp c y
-          → said t ws ≡ a ++ (kind_words k ++ (c ++ us)) → Took t (expression t operands s ws) (pair_of placed s k x y (record { 0 = 0 })) us
-      plain_complete k a c x y us i m d p q e = pair_complete k a c x y us us (record { 0 = 0 }) i m p q e (λ xs f. record { left = xs; words = f; took = tail_none t k xs d })
+          → said t ws ≡ a ++ (kind_words k ++ (c ++ us)) → Took t (expression t operands s ws) (pair_of placed s k x y) us
+      plain_complete k a c x y us i m d p q e = pair_complete k a c x y us us k i m p q e (λ xs f. record { left = xs; words = f; took = tail_none t k xs d })
 
       delay_complete : (ns a c : Words) (x y : O) (us : Words) → IsOp a x → IsOp c y → all_digits ns ≡ true → NoRun us → said t ws ≡ (a ++ ascii "deferred" ∷ (c ++ ascii "for" ∷ ns)) ++ us
           → Took t (expression t operands s ws) (right_of placed s (delays (map (value 0) ns) x y)) us
       unfolding not_await look_up same_bytes
       delay_complete ns a c x y us p q d f e =
-          pair_complete (Defines Deferred) a c x y (ascii "for" ∷ (ns ++ us)) us (record { 0 = listed (map (value 0) ns) }) refl refl p q
+          pair_complete (Defines (Deferred [])) a c x y (ascii "for" ∷ (ns ++ us)) us (Defines (Deferred (listed (map (value 0) ns)))) refl refl p q
           (e ∙ append_assoc a (ascii "deferred" ∷ (c ++ ascii "for" ∷ ns)) us ∙ ap (λ (z : Words). a ++ ascii "deferred" ∷ z) (append_assoc c (ascii "for" ∷ ns) us)) (λ xs g.
           let h : First t xs (ascii "for") (ns ++ us) = first_is t xs (ascii "for") (ns ++ us) g in
           let r = runs_complete t ns us d f (rest xs) h.after in
@@ -390,8 +389,8 @@ module _ (t : List ℕ) {S O : Type 0} (IsOp : Words → O → Type 0) (placed :
             left = past_digits t (rest xs);
             words = r.1;
             took =
-                tail_list t (Defines Deferred) xs refl (first_told t Bool (is For) true xs (ascii "for") (ns ++ us) g refl)
-                ∙ ap (λ (m : ℕ). parsed (record { 0 = m }) (past_digits t (rest xs))) (ap listed r.0 ∙ listed_cut (map (value 0) ns));
+                tail_list t (Defines (Deferred [])) xs refl (first_told t Bool (is For) true xs (ascii "for") (ns ++ us) g refl)
+                ∙ ap (λ (m : List ℕ). parsed (Defines (Deferred m)) (past_digits t (rest xs))) (ap listed r.0 ∙ listed_cut (map (value 0) ns));
           })
 
       await_complete : (n : Word) (a : Words) (x : O) (us : Words) → is_digits n ≡ true → IsOp a x → said t ws ≡ ascii "await" ∷ n ∷ (a ++ us)
@@ -408,7 +407,7 @@ module _ (t : List ℕ) {S O : Type 0} (IsOp : Words → O → Type 0) (placed :
             words = h.words;
             took =
                 await_some t operands s ws w k (placed s x) h.left h.took
-                ∙ ap (λ (z : ℕ). parsed (record { left = (placed s x).left; constraint = sides (Defines AwaitKind) (placed s x).clock 0 (record { 0 = z }) }) h.left) (ap await_number g.bytes ∙ await_value n d);
+                ∙ ap (λ (z : ℕ). parsed (record { left = (placed s x).left; constraint = sides (Defines (AwaitKind z)) (placed s x).clock 0 }) h.left) (ap await_number g.bytes ∙ await_value n d);
           }
 
       both_complete : (k : Definition) (a c : Words) (x y : O) (us : Words) → not_await (Defines k) ≡ true → is_deferred k ≡ false → IsOp a x → IsOp c y → said t ws ≡ (a ++ (kind_words (Defines k) ++ c)) ++ us
@@ -456,7 +455,7 @@ module _ (t : List ℕ) {S O : Type 0} (IsOp : Words → O → Type 0) (placed :
       unfolding not_await
       relation_complete k a c x y p q e =
           line_relates t operands s ws (λ w. named (bytes_of t w)) (no_definition k a c (A.opens a x p) e)
-          ∙ closed_by false 0 (expression t operands s ws) (pair_of placed s (Relates k) x y (record { 0 = 0 })) refl
+          ∙ closed_by false 0 (expression t operands s ws) (pair_of placed s (Relates k) x y) refl
           (plain_complete s ws (Relates k) a c x y [] refl refl refl p q (e ∙ ap (λ (z : Words). a ++ (kind_words (Relates k) ++ z)) (sym (append-nil c))))
 
       definition_complete : (c : Word) (rs : Words) (r : Right O) → is_name c ≡ true → IsRight IsOp rs r → said t ws ≡ c ∷ ascii "clockDef" ∷ rs → line ≡ parsed (form_with placed named s (defines c r)) []

@@ -53,12 +53,12 @@ module _ (t : List ℕ) (ns : Names) where
   placed s (name w) = record { left = s; clock = clock_named t ns w }
   placed s (both_inside k x y) = enclosed (record {
     left = (placed (placed s x).left y).left;
-    constraint = sides (Defines k) (placed s x).clock (placed (placed s x).left y).clock (record { 0 = 0 });
+    constraint = sides (Defines k) (placed s x).clock (placed (placed s x).left y).clock;
   })
-  placed s (awaits_inside n x) = enclosed (record { left = (placed s x).left; constraint = sides (Defines AwaitKind) (placed s x).clock 0 (record { 0 = parameter_of n }) })
+  placed s (awaits_inside n x) = enclosed (record { left = (placed s x).left; constraint = sides (Defines (AwaitKind (parameter_of n))) (placed s x).clock 0 })
   placed s (delays_inside ms x y) = enclosed (record {
     left = (placed (placed s x).left y).left;
-    constraint = sides (Defines Deferred) (placed s x).clock (placed (placed s x).left y).clock (record { 0 = listed ms });
+    constraint = sides (Defines (Deferred (listed ms))) (placed s x).clock (placed (placed s x).left y).clock;
   })
 
   placed_inner : (s : Inner) (r : Right Operand) → placed s (inner r) ≡ enclosed (right_of placed s r)

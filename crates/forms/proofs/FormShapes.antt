@@ -39,7 +39,7 @@ module _ (O : Type 0) (IsOp : Words → O → Type 0) where
   -- a right side, as one of three shapes
   pub data RightShape (us : Words) : Right O → Type 0 where
     two : {k : Definition} {x y : O} → is_deferred k ≡ false → Between (Defines k) x y us → RightShape us (both k x y)
-    listed : {vs : Words} (ns : Words) {x y : O} → Between (Defines Deferred) x y vs → all_digits ns ≡ true → us ≡ vs ++ ascii "for" ∷ ns → RightShape us (delays (map (value 0) ns) x y)
+    listed : {vs : Words} (ns : Words) {x y : O} → Between (Defines (Deferred [])) x y vs → all_digits ns ≡ true → us ≡ vs ++ ascii "for" ∷ ns → RightShape us (delays (map (value 0) ns) x y)
     waits : {n : Word} {a : Words} {x : O} → is_digits n ≡ true → IsOp a x → us ≡ ascii "await" ∷ n ∷ a → RightShape us (awaits (value 0 n) x)
 
   between : (k : Kind) (a c : Words) (x y : O) → is_kind k ≡ true → not_await k ≡ true → IsOp a x → IsOp c y → Between k x y (a ++ (kind_words k ++ c))
@@ -55,7 +55,7 @@ module _ (O : Type 0) (IsOp : Words → O → Type 0) where
   right_shape us r (strictly_sampled {a = a} {b = c} {x = x} {y = y} p q) = two refl (between (Defines StrictlySampled) a c x y refl refl p q)
   right_shape us r (sampled {a = a} {b = c} {x = x} {y = y} p q) = two refl (between (Defines Sampled) a c x y refl refl p q)
   right_shape us r (upto {a = a} {b = c} {x = x} {y = y} p q) = two refl (between (Defines Upto) a c x y refl refl p q)
-  right_shape us r (deferred {a = a} {b = c} ns {x = x} {y = y} p q d) = listed ns (between (Defines Deferred) a c x y refl refl p q) d (sym (append_assoc a (ascii "deferred" ∷ c) (ascii "for" ∷ ns)))
+  right_shape us r (deferred {a = a} {b = c} ns {x = x} {y = y} p q d) = listed ns (between (Defines (Deferred [])) a c x y refl refl p q) d (sym (append_assoc a (ascii "deferred" ∷ c) (ascii "for" ∷ ns)))
 
   pub data Shape (us : Words) : Form O → Type 0 where
     relation : {k : Relation} {x y : O} → Between (Relates k) x y us → Shape us (relates k x y)

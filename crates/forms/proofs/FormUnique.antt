@@ -42,11 +42,12 @@ kind_of_lem (Defines Union) u us i n = refl
 kind_of_lem (Defines Inter) u us i n = refl
 kind_of_lem (Defines Lub) u us i n = refl
 kind_of_lem (Defines Glb) u us i n = refl
-kind_of_lem (Defines AwaitKind) u us i n = absurd (false≢true n)
+kind_of_lem (Defines (AwaitKind m)) u us i n = absurd (false≢true n)
 kind_of_lem (Defines StrictlySampled) u us i n = refl
 kind_of_lem (Defines Sampled) u us i n = refl
 kind_of_lem (Defines Upto) u us i n = refl
-kind_of_lem (Defines Deferred) u us i n = refl
+kind_of_lem (Defines (Deferred [])) u us i n = refl
+kind_of_lem (Defines (Deferred (m ∷ ms))) u us i n = absurd (false≢true n)
 
 cancel : (ks us vs : Words) → ks ++ us ≡ ks ++ vs → us ≡ vs
 cancel [] us vs e = e
@@ -103,13 +104,13 @@ module _ (O : Type 0) (IsOp : Words → O → Type 0) (opens : (a : Words) (x : 
         let d : k ≡ j = cc h.0 in
         (λ i. both (d i) (h.1 i) (h.2 i), h.3)
     shapes_same ws vs r s (two {k = k} {x = x} {y = y} n p) (listed {vs = qs} ms {x = v} {y = w} q d h) e =
-        let i = one_pair ws qs us (ascii "for" ∷ (ms ++ zs)) (Defines k) (Defines Deferred) x y v w p q (e ∙ behind vs qs ms zs h) in
+        let i = one_pair ws qs us (ascii "for" ∷ (ms ++ zs)) (Defines k) (Defines (Deferred [])) x y v w p q (e ∙ behind vs qs ms zs h) in
         absurd (false≢true (sym n ∙ ap is_delay i.0))
     shapes_same ws vs r s (listed {vs = ps} ns {x = x} {y = y} p d h) (two {k = j} {x = v} {y = w} m q) e =
-        let i = one_pair ps vs (ascii "for" ∷ (ns ++ us)) zs (Defines Deferred) (Defines j) x y v w p q (sym (behind ws ps ns us h) ∙ e) in
+        let i = one_pair ps vs (ascii "for" ∷ (ns ++ us)) zs (Defines (Deferred [])) (Defines j) x y v w p q (sym (behind ws ps ns us h) ∙ e) in
         absurd (false≢true (sym m ∙ ap is_delay (sym i.0)))
     shapes_same ws vs r s (listed {vs = ps} ns {x = x} {y = y} p d h) (listed {vs = qs} ms {x = v} {y = w} q c j) e =
-        let i = one_pair ps qs (ascii "for" ∷ (ns ++ us)) (ascii "for" ∷ (ms ++ zs)) (Defines Deferred) (Defines Deferred) x y v w p q (sym (behind ws ps ns us h) ∙ e ∙ behind vs qs ms zs j) in
+        let i = one_pair ps qs (ascii "for" ∷ (ns ++ us)) (ascii "for" ∷ (ms ++ zs)) (Defines (Deferred [])) (Defines (Deferred [])) x y v w p q (sym (behind ws ps ns us h) ∙ e ∙ behind vs qs ms zs j) in
         let k : ns ++ us ≡ ms ++ zs = cc i.3 in
         let o = runs_same ns ms us zs d c f g k in
         (λ l. delays (map (value 0) (o.0 l)) (i.1 l) (i.2 l), o.1)
@@ -118,9 +119,9 @@ module _ (O : Type 0) (IsOp : Words → O → Type 0) (opens : (a : Words) (x : 
     shapes_same ws vs r s (waits {n = n} {a = a} b p h) (two {k = k} {x = x} {y = y} m q) e =
         absurd (pair_no_await (Defines k) x y vs zs (n ∷ (a ++ us)) q (sym e ∙ ap (λ (z : Words). z ++ us) h))
     shapes_same ws vs r s (listed {vs = ps} ns {x = x} {y = y} p d j) (waits {n = n} {a = a} b q h) e =
-        absurd (pair_no_await (Defines Deferred) x y ps (ascii "for" ∷ (ns ++ us)) (n ∷ (a ++ zs)) p (sym (behind ws ps ns us j) ∙ e ∙ ap (λ (z : Words). z ++ zs) h))
+        absurd (pair_no_await (Defines (Deferred [])) x y ps (ascii "for" ∷ (ns ++ us)) (n ∷ (a ++ zs)) p (sym (behind ws ps ns us j) ∙ e ∙ ap (λ (z : Words). z ++ zs) h))
     shapes_same ws vs r s (waits {n = n} {a = a} b p h) (listed {vs = qs} ms {x = x} {y = y} q d j) e =
-        absurd (pair_no_await (Defines Deferred) x y qs (ascii "for" ∷ (ms ++ zs)) (n ∷ (a ++ us)) q (sym (behind vs qs ms zs j) ∙ sym e ∙ ap (λ (z : Words). z ++ us) h))
+        absurd (pair_no_await (Defines (Deferred [])) x y qs (ascii "for" ∷ (ms ++ zs)) (n ∷ (a ++ us)) q (sym (behind vs qs ms zs j) ∙ sym e ∙ ap (λ (z : Words). z ++ us) h))
     shapes_same ws vs r s (waits {n = n} {a = a} {x = x} b p h) (waits {n = m} {a = c} {x = y} t q j) e =
         let d : ascii "await" ∷ n ∷ (a ++ us) ≡ ascii "await" ∷ m ∷ (c ++ zs) = ap (λ (z : Words). z ++ us) (sym h) ∙ e ∙ ap (λ (z : Words). z ++ zs) j in
         let i : n ≡ m = cc in

@@ -71,11 +71,11 @@ module _ {A : Type 0} (M : Words → A) (passes : (w : Word) (us : Words) → on
   kind_passes (Defines Inter) us i n = passes (ascii "clockInter") us refl
   kind_passes (Defines Lub) us i n = passes (ascii "lub") us refl
   kind_passes (Defines Glb) us i n = passes (ascii "glb") us refl
-  kind_passes (Defines AwaitKind) us i n = absurd (false≢true n)
+  kind_passes (Defines (AwaitKind m)) us i n = absurd (false≢true n)
   kind_passes (Defines StrictlySampled) us i n = passes (ascii "strictly") (ascii "sampled" ∷ us) refl ∙ passes (ascii "sampled") us refl
   kind_passes (Defines Sampled) us i n = passes (ascii "sampled") us refl
   kind_passes (Defines Upto) us i n = passes (ascii "upto") us refl
-  kind_passes (Defines Deferred) us i n = passes (ascii "deferred") us refl
+  kind_passes (Defines (Deferred ns)) us i n = passes (ascii "deferred") us refl
 
   pub def_passes : (us : Words) → M (ascii "clockDef" ∷ us) ≡ M us
   unfolding one_of same_bytes
@@ -124,7 +124,7 @@ module _ {A : Type 0} (M : Words → A) (C : Counts M) where
         go : (r : Right Operand) → RightShape Operand IsOp ws r → M (ws ++ us) ≡ adds_side r (M us)
         go r (two {k = k} {x = x} {y = y} n p) = pair_adds (Defines k) x y ws us p
         go r (listed {vs = vs} ns {x = x} {y = y} p d e) =
-            ap (λ (z : Words). M (z ++ us)) e ∙ ap M (append_assoc vs (ascii "for" ∷ ns) us) ∙ pair_adds (Defines Deferred) x y vs (ascii "for" ∷ (ns ++ us)) p ∙ ap (λ (z : A). adds x (adds y z)) (C.of_list ns us d f)
+            ap (λ (z : Words). M (z ++ us)) e ∙ ap M (append_assoc vs (ascii "for" ∷ ns) us) ∙ pair_adds (Defines (Deferred [])) x y vs (ascii "for" ∷ (ns ++ us)) p ∙ ap (λ (z : A). adds x (adds y z)) (C.of_list ns us d f)
         go r (waits {n = n} {a = a} {x = x} d p e) = ap (λ (z : Words). M (z ++ us)) e ∙ C.of_await n (a ++ us) d ∙ ap (C.awaited (value 0 n)) (operand a us x p)
 
     form_adds : (ws : Words) (f : Form Operand) → IsForm IsOp ws f → M ws ≡ adds_form f (M [])

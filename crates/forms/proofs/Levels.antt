@@ -119,7 +119,7 @@ module _ (k : ℕ) (o : k ≤ 16) (IsOp Fits : Words → Operand → Type 0) (op
           let f = pair_fits (Defines j) x y ws us p s in
           (rw f.0.words (right_row Fits f.0.first f.0.second j f.0.plainly n), f.1)
       go r (listed {vs = vs} ns {x = x} {y = y} p d e) =
-          let f = pair_fits (Defines Deferred) x y vs (ascii "for" ∷ (ns ++ us)) p (ap (λ (z : Words). too_deep k (joined z)) (sym (ap (λ (z : Words). z ++ us) e ∙ append_assoc vs (ascii "for" ∷ ns) us)) ∙ s) in
+          let f = pair_fits (Defines (Deferred [])) x y vs (ascii "for" ∷ (ns ++ us)) p (ap (λ (z : Words). too_deep k (joined z)) (sym (ap (λ (z : Words). z ++ us) e ∙ append_assoc vs (ascii "for" ∷ ns) us)) ∙ s) in
           let w : (f.0.a ++ ascii "deferred" ∷ f.0.c) ++ ascii "for" ∷ ns ≡ f.0.a ++ ascii "deferred" ∷ (f.0.c ++ ascii "for" ∷ ns) = append_assoc f.0.a (ascii "deferred" ∷ f.0.c) (ascii "for" ∷ ns) in
           let g : Shallow k (ns ++ us) = sym (word_passes k o (ascii "for") (ns ++ us) refl) ∙ f.1 in (
             rw (e, f.0.words, w) (deferred ns f.0.first f.0.second d),

@@ -1,26 +1,23 @@
 -- The records of lines that break nothing pass 59. Record by record: the clocks that it uses are named, or implicit and defined above it; its clocks
 -- are all different; and no record above it defines the clock that it defines. Assumes nothing.
 use mathlib.Core.Path.{◌≡◌, refl, sym, ap, ap₂, subst, ◌∙◌}
-use mathlib.Core.Bool.{Bool, true, false, ◌&&◌, ◌||◌, or-false, false≢true}
+use mathlib.Core.Bool.{Bool, true, false, ◌||◌, or-false, false≢true}
 use mathlib.Core.List.{List, [], ◌∷◌, ◌++◌, append_assoc, append-nil}
 use Prim.Native.Nat.{ℕ, ◌+◌, ◌-◌, ◌≤◌, ◌<◌}
 use native.Mathlib.Omega.{arith}
-use borrow.Author.Tests.{ltb-true, ltb-false, lt-ltb, le-ltb, leb-true, le-leb, eqb-true, eqb-false, ne_eqb}
-use lib.Dec.{ltb, leb, eqb}
+use borrow.Author.Tests.{ltb-true, ltb-false, lt-ltb, le-ltb, le-leb, eqb-true, eqb-false, ne_eqb}
+use lib.Dec.{ltb, eqb}
 use lib.ListN.{length, length-append}
 use Rattle.limit.specs.declared.Limit.TheVariants.{DefinedTwice}
 use Rattle.constraint.specs.Lists.{all_known, first_unfit, broken_record}
-use Rattle.constraint.specs.Meaning.{packed, counter_of, defined_of, used_of, all_below, among, distinct, parameter_fits, clocks_fit, well_formed}
+use Rattle.constraint.specs.Meaning.{counter_of, defined_of, used_of, all_below, among, distinct, parameter_fits, clocks_fit, well_formed}
 use Rattle.constraint.specs.Ticks.{none, any}
-use Rattle.constraint.specs.declared.Broken.TheVariants.{Nowhere}
+use Rattle.std.specs.Prelude.{None}
 use Rattle.constraint.specs.declared.Clocks.{Clocks}
 use Rattle.constraint.specs.declared.Constraint.{Constraint}
-use Rattle.constraint.specs.declared.Counter.TheVariants.{Pending}
 use Rattle.constraint.proofs.Booleans.{and_l, and_r}
-use Rattle.constraint.proofs.Delay.{all_delays, packed_numbers, delays_up_to}
 use Rattle.constraint.proofs.Named.{arity, paired_operands, paired_fits, relation_fits}
 use Rattle.constraint.proofs.OneMore.{defined_in, defined_more, fits_more, none_among, below_more, clocks_more}
-use Rattle.grammar.specs.Grammar.{all_delays as in_range, is_list}
 use Rattle.forms.specs.Forms.{Word, Words, Line, words_of, one_of, Right, both, awaits, delays, Form, relates, defines, Operand, name, both_inside, awaits_inside, delays_inside, inner, levels, HasForm}
 use Rattle.forms.specs.Lines.{names_in, pairs_in, with_names, with_lines, clock_names, pairs, Some, DefinesClock, defined_above, BreaksNothing, NothingBroken, standing, implicits, side_implicits, form_implicits, clock_of, side_record, operand_records, side_records, records_of, Recorded, no_line, blank, formed}
 use Rattle.forms.proofs.ClockNames.{AllOf, standing_below, standing_one}
@@ -28,19 +25,6 @@ use Rattle.forms.proofs.FormNames.{lines_named}
 use Rattle.forms.proofs.FormWords.{operand_names, side_names, form_names, form_pairs}
 use Rattle.forms.proofs.SomeLaws.{some_more, some_last}
 use Rattle.forms.proofs.SoundForms.{NoneTwice, Differ, Sound, SoundForm, line_sound}
-
--- ---- a list of delays that is in range is in range as it is kept
-delays_are : (ns : List ℕ) → in_range ns ≡ true → all_delays ns
-delays_are [] e = tt
-delays_are (n ∷ ns) e =
-    let h : (leb 1 n && leb n 32) ≡ true = and_l (leb 1 n && leb n 32) (in_range ns) e in
-    (leb-true 1 n (and_l (leb 1 n) (leb n 32) h), leb-true n 32 (and_r (leb 1 n) (leb n 32) h), delays_are ns (and_r (leb 1 n && leb n 32) (in_range ns) e))
-
-packed_fits : (ns : List ℕ) → is_list ns ≡ true → parameter_fits Pending (record { 0 = packed ns }) ≡ true
-packed_fits ns e =
-    let l : (leb 1 (length ns) && leb (length ns) 8) ≡ true = and_l (leb 1 (length ns) && leb (length ns) 8) (in_range ns) e in
-    let d : all_delays ns = delays_are ns (and_r (leb 1 (length ns) && leb (length ns) 8) (in_range ns) e) in
-    rw (packed_numbers 8 ns (leb-true (length ns) 8 (and_r (leb 1 (length ns)) (leb (length ns) 8) l)) d, and_l (leb 1 (length ns)) (leb (length ns) 8) l) (delays_up_to ns d)
 
 module _ (ns : Words) where
   -- the number of the first implicit clock; all names, and k implicit clocks
@@ -52,7 +36,7 @@ module _ (ns : Words) where
 
   -- ---- records that pass: of the implicit clocks they define the first k, and of the names only those that the lines above define
   record Passing (above : List Line) (k : ℕ) (qs : List Constraint) : Type 0 where
-    fit : length qs ≤ 64 → first_unfit (counted k) none 1 qs ≡ Nowhere
+    fit : length qs ≤ 64 → first_unfit (counted k) none 1 qs ≡ None
     implicit : (j : ℕ) → defined_in none qs (from + j) ≡ ltb j k
     named : (c : Word) → one_of ns c ≡ true → defined_in none qs (standing ns c) ≡ true → Some (DefinesClock c) above
 
@@ -65,7 +49,7 @@ module _ (ns : Words) where
   -- a record more: its operands are named clocks, or of the first k implicit ones
   record Fitting (k : ℕ) (r : Constraint) : Type 0 where
     uses : clocks_fit (from + k) (used_of r) ≡ true
-    number : parameter_fits (counter_of r.kind) r.parameter ≡ true
+    number : parameter_fits (counter_of r.kind) ≡ true
 
   module _ {above : List Line} {k : ℕ} {qs : List Constraint} (p : Passing above k qs) (r : Constraint) (f : Fitting k r) where
     below : all_below (from + k) (used_of r) ≡ true
@@ -86,7 +70,7 @@ module _ (ns : Words) where
             let s : from + (i - from) ≡ i = omega arith in
             ap (defined_in none qs) (sym s) ∙ p.implicit (i - from) ∙ lt-ltb (i - from) k (omega arith)
 
-    fits_next : (m : ℕ) → k ≤ m → well_formed (from + m) r ≡ true → any (defined_in none qs) (defined_of r) ≡ false → length (qs ++ r ∷ []) ≤ 64 → first_unfit (counted m) none 1 (qs ++ r ∷ []) ≡ Nowhere
+    fits_next : (m : ℕ) → k ≤ m → well_formed (from + m) r ≡ true → any (defined_in none qs) (defined_of r) ≡ false → length (qs ++ r ∷ []) ≤ 64 → first_unfit (counted m) none 1 (qs ++ r ∷ []) ≡ None
     fits_next m h w d l =
         let s : length qs + 1 ≤ 64 = omega (arith, simp length-append at l) in
         fits_more (counted m) none 1 qs r (clocks_more (counted k) (counted m) (omega arith) (omega arith) none 1 qs (p.fit (omega arith))) (omega arith) w d (known (used_of r) below)
@@ -101,7 +85,7 @@ module _ (ns : Words) where
 
     -- a definition of a clock c that is not defined yet
     module _ (c : ℕ) (d : defined_of r ≡ c ∷ []) where
-      defined_fits : (m : ℕ) → k ≤ m → c < from + m → defined_in none qs c ≡ false → among c (used_of r) ≡ false → length (qs ++ r ∷ []) ≤ 64 → first_unfit (counted m) none 1 (qs ++ r ∷ []) ≡ Nowhere
+      defined_fits : (m : ℕ) → k ≤ m → c < from + m → defined_in none qs c ≡ false → among c (used_of r) ≡ false → length (qs ++ r ∷ []) ≤ 64 → first_unfit (counted m) none 1 (qs ++ r ∷ []) ≡ None
       defined_fits m h l n o = fits_next m h (rw (d, lt-ltb c (from + m) l, below_more (from + k) (from + m) (omega arith) (used_of r) below, o, differ, f.number)) (rw (d, n))
 
       defined_now : (i : ℕ) → defined_in none (qs ++ r ∷ []) i ≡ (defined_in none qs i || eqb i c)
@@ -191,9 +175,9 @@ module _ (ns : Words) where
     side_defines k c (delays ms x y) = refl
 
     side_fits : (k c : ℕ) (r : Right Operand) → Sound ns (inner r) → Fitting (k + side_implicits r) (side_record ns from n k c r)
-    side_fits k c (both d x y) s = record { uses = rw (paired_operands (arity d) (clock k x) (clock (k + implicits x) y) s.0) (pair_fits k x y s.1 s.2 s.3); number = paired_fits (arity d) _ s.0 }
+    side_fits k c (both d x y) s = record { uses = rw (paired_operands (arity d) (clock k x) (clock (k + implicits x) y) s.0) (pair_fits k x y s.1 s.2 s.3); number = paired_fits (arity d) s.0 }
     side_fits k c (awaits m x) s = record { uses = rw (lt-ltb _ _ (clock_below k x s.1)); number = s.0 }
-    side_fits k c (delays ms x y) s = record { uses = pair_fits k x y s.1 s.2 s.3; number = packed_fits ms s.0 }
+    side_fits k c (delays ms x y) s = record { uses = pair_fits k x y s.1 s.2 s.3; number = s.0 }
 
     pair_other : (k : ℕ) (c : Word) (x y : Operand) → one_of ns c ≡ true → Sound ns x → Sound ns y → NoneTwice (c ∷ (operand_names x ++ operand_names y)) → among (standing ns c) (clock k x ∷ clock (k + implicits x) y ∷ []) ≡ false
     pair_other k c x y o u v t =
@@ -235,14 +219,14 @@ module _ (ns : Words) where
           → Passing (above ++ l ∷ []) (k + form_implicits f) (qs ++ records_of ns from n k f)
       form_passes l (relates j x y) b h s k qs p =
           let q = pair_passes x y (operand_passes x s.0) (operand_passes y s.1) k qs p in
-          line_more l (moved refl (append_assoc qs _ _) (relation_more q _ (record { uses = pair_fits k x y s.0 s.1 s.2; number = relation_fits j _ }) refl))
+          line_more l (moved refl (append_assoc qs _ _) (relation_more q _ (record { uses = pair_fits k x y s.0 s.1 s.2; number = relation_fits j }) refl))
       form_passes l (defines c r) b h s k qs p =
           moved refl (append_assoc qs _ _)
           (named_more (side_passes r s.1 k qs p) _ (side_fits k _ r s.1) c l s.0 (r, h) (λ o. b DefinedTwice (defined_above (r, h) o)) (side_defines k _ r) (side_other k c r s.0 s.1 s.2))
 
   -- ---- lines below others, us being the names of these
   pass_on : (us : Words) (above ls : List Line) {n k : ℕ} (m : ℕ) (qs rs : List Constraint) → NothingBroken above ls → Recorded ns n k ls rs → with_lines us ls ≡ ns → k + pairs ls ≡ m
-      → Passing above k qs → length (qs ++ rs) ≤ 64 → first_unfit (counted m) none 1 (qs ++ rs) ≡ Nowhere
+      → Passing above k qs → length (qs ++ rs) ≤ 64 → first_unfit (counted m) none 1 (qs ++ rs) ≡ None
   unfolding NothingBroken with_lines pairs pairs_in
   pass_on us above _ m qs _ b no_line e s p h = (moved {m = m} (omega arith) (sym (append-nil qs)) p).fit h
   pass_on us above _ m qs _ b (blank {l = l} {ls = ls} {rs = rs} w r) e s p h =
@@ -254,5 +238,5 @@ module _ (ns : Words) where
 
 pub lines_pass : (ls : List Line) (rs : List Constraint) → NothingBroken [] ls → Recorded (clock_names ls) 1 0 ls rs
     → length (clock_names ls) + pairs ls ≤ 32 → length rs ≤ 64
-    → broken_record (record { named = length (clock_names ls); count = length (clock_names ls) + pairs ls }) rs ≡ Nowhere
+    → broken_record (record { named = length (clock_names ls); count = length (clock_names ls) + pairs ls }) rs ≡ None
 lines_pass ls rs b r c h = rw (le-leb _ 32 c, le-leb (length (clock_names ls)) (length (clock_names ls) + pairs ls) (omega arith)) (pass_on (clock_names ls) [] [] ls (pairs ls) [] rs b r refl (omega arith) (none_passing (clock_names ls)) h)

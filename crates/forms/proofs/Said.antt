@@ -98,11 +98,12 @@ module _ (t : List ℕ) where
   kind_is us (Defines Inter) bs i n e = one_word us (Defines Inter) (ascii "clockInter") bs refl refl e
   kind_is us (Defines Lub) bs i n e = one_word us (Defines Lub) (ascii "lub") bs refl refl e
   kind_is us (Defines Glb) bs i n e = one_word us (Defines Glb) (ascii "glb") bs refl refl e
-  kind_is us (Defines AwaitKind) bs i n e = absurd (false≢true n)
+  kind_is us (Defines (AwaitKind m)) bs i n e = absurd (false≢true n)
   kind_is us (Defines StrictlySampled) bs i n e = two_words_lem us (Defines StrictlySampled) (ascii "sampled") bs refl e
   kind_is us (Defines Sampled) bs i n e = one_word us (Defines Sampled) (ascii "sampled") bs refl refl e
   kind_is us (Defines Upto) bs i n e = one_word us (Defines Upto) (ascii "upto") bs refl refl e
-  kind_is us (Defines Deferred) bs i n e = one_word us (Defines Deferred) (ascii "deferred") bs refl refl e
+  kind_is us (Defines (Deferred (m ∷ ms))) bs i n e = absurd (false≢true n)
+  kind_is us (Defines (Deferred [])) bs i n e = one_word us (Defines (Deferred [])) (ascii "deferred") bs refl refl e
 
   -- what a relation's kind says is not clockDef
   pub no_clock_def : (k : Relation) (us : List Span) (bs : Words) → said t us ≡ kind_words (Relates k) ++ bs → is ClockDef (token t us) ≡ false

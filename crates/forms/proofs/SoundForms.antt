@@ -1,8 +1,8 @@
 -- A line that breaks nothing has a sound form: its names have numbers, the clocks that a constraint names are not one name, and its await numbers
 -- and its lists of delays are in range. Assumes nothing.
-use mathlib.Core.Path.{◌≡◌, refl, sym, ap, ap₂, ◌∙◌}
+use mathlib.Core.Path.{◌≡◌, refl, ap, ap₂, ◌∙◌}
 use mathlib.Core.Logic.{◌↔◌}
-use mathlib.Core.Bool.{Bool, true, false, ◌&&◌, ◌||◌, true≢false, false≢true}
+use mathlib.Core.Bool.{Bool, true, false, ◌&&◌, true≢false, false≢true}
 use mathlib.Core.List.{List, [], ◌∷◌, ◌++◌, map, append_assoc}
 use Prim.Native.Nat.{ℕ, zero, suc, ◌≤◌, ◌<◌}
 use native.Mathlib.Omega.{arith}
@@ -14,6 +14,7 @@ use Rattle.constraint.specs.declared.Kind.{Kind}
 use Rattle.constraint.specs.declared.Kind.TheVariants.{Defines}
 use Rattle.constraint.proofs.Named.{arity, paired}
 use Rattle.constraint.specs.declared.Definition.{Definition}
+use Rattle.constraint.specs.declared.Definition.TheVariants.{Union, Inter, Lub, Glb, Await as AwaitKind, StrictlySampled, Sampled, Upto, Deferred}
 use Rattle.text.specs.Digits.{value}
 use Rattle.grammar.specs.Grammar.{all_delays, is_list, is_deferred}
 use Rattle.grammar.proofs.KindLaws.{not_await}
@@ -27,11 +28,15 @@ use Rattle.forms.proofs.SomeLaws.{some_none, some_left, some_right, some_last}
 -- a kind that is neither an await nor a delay has two operands and nothing else
 plainly_paired : (k : Definition) → is_deferred k ≡ false → not_await (Defines k) ≡ true → paired (arity k) ≡ true
 unfolding not_await
-plainly_paired k d e = go (paired (arity k)) (is_deferred k) d e
-  where
-    go : (x y : Bool) → y ≡ false → (x || y) ≡ true → x ≡ true
-    go true y d e = refl
-    go false y d e = absurd (false≢true (sym d ∙ e))
+plainly_paired Union d e = refl
+plainly_paired Inter d e = refl
+plainly_paired Lub d e = refl
+plainly_paired Glb d e = refl
+plainly_paired (AwaitKind n) d e = absurd (false≢true e)
+plainly_paired StrictlySampled d e = refl
+plainly_paired Sampled d e = refl
+plainly_paired Upto d e = refl
+plainly_paired (Deferred ns) d e = absurd (true≢false d)
 
 -- no word stands twice
 abbrev pub NoneTwice : Words → Type 0

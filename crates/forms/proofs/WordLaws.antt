@@ -39,11 +39,11 @@ kind_words (Defines Union) = ascii "clockUnion" ∷ []
 kind_words (Defines Inter) = ascii "clockInter" ∷ []
 kind_words (Defines Lub) = ascii "lub" ∷ []
 kind_words (Defines Glb) = ascii "glb" ∷ []
-kind_words (Defines AwaitKind) = []
+kind_words (Defines (AwaitKind n)) = []
 kind_words (Defines StrictlySampled) = ascii "strictly" ∷ ascii "sampled" ∷ []
 kind_words (Defines Sampled) = ascii "sampled" ∷ []
 kind_words (Defines Upto) = ascii "upto" ∷ []
-kind_words (Defines Deferred) = ascii "deferred" ∷ []
+kind_words (Defines (Deferred ns)) = ascii "deferred" ∷ []
 
 abbrev same_words : Words → Words → Bool
 same_words [] [] = true

@@ -4,7 +4,6 @@ use Rattle.std.specs.Prelude.{◌≡◌, refl, Bool, true, false, not, cond, ◌
 use Rattle.limit.specs.Limit.{number_of}
 use Rattle.limit.specs.declared.Limit.{Limit}
 use Rattle.limit.specs.declared.Limit.TheVariants.{TableLength, LineByte, NestingDepth, Unpaired, LineForm, NameLength, AwaitNumber, DelayNumber, ClockTwice, DefinedTwice, TableClocks, TableConstraints}
-use Rattle.constraint.specs.Meaning.{packed}
 use Rattle.constraint.specs.declared.Constraint.{Constraint}
 use Rattle.constraint.specs.declared.Definition.TheVariants.{Union, Lub, Glb, Await, Upto, Deferred}
 use Rattle.constraint.specs.declared.Kind.TheVariants.{Relates, Defines}
@@ -210,9 +209,9 @@ module _ (ns : Words) (from n : ℕ) where
 
   -- the record of a right side that defines the clock c
   abbrev pub side_record : (k c : ℕ) → Right Operand → Constraint
-  side_record k c (both d x y) = record { kind = Defines d; defined = c; first = clock_of k x; second = clock_of (k + implicits x) y; parameter = record { 0 = 0 }; line = record { 0 = n } }
-  side_record k c (awaits m x) = record { kind = Defines Await; defined = c; first = clock_of k x; second = 0; parameter = record { 0 = m }; line = record { 0 = n } }
-  side_record k c (delays ms x y) = record { kind = Defines Deferred; defined = c; first = clock_of k x; second = clock_of (k + implicits x) y; parameter = record { 0 = packed ms }; line = record { 0 = n } }
+  side_record k c (both d x y) = record { kind = Defines d; defined = c; first = clock_of k x; second = clock_of (k + implicits x) y; line = record { 0 = n } }
+  side_record k c (awaits m x) = record { kind = Defines (Await m); defined = c; first = clock_of k x; second = 0; line = record { 0 = n } }
+  side_record k c (delays ms x y) = record { kind = Defines (Deferred ms); defined = c; first = clock_of k x; second = clock_of (k + implicits x) y; line = record { 0 = n } }
 
   -- the definitions of an operand's implicit clocks: left before right, inner before outer
   abbrev pub operand_records : (k : ℕ) → Operand → List Constraint
@@ -232,7 +231,7 @@ module _ (ns : Words) (from n : ℕ) where
   form_records k (defines c r) = side_records k r
 
   abbrev pub own_record : (k : ℕ) → Form Operand → Constraint
-  own_record k (relates j x y) = record { kind = Relates j; defined = 0; first = clock_of k x; second = clock_of (k + implicits x) y; parameter = record { 0 = 0 }; line = record { 0 = n } }
+  own_record k (relates j x y) = record { kind = Relates j; defined = 0; first = clock_of k x; second = clock_of (k + implicits x) y; line = record { 0 = n } }
   own_record k (defines c r) = side_record k (standing ns c) r
 
   abbrev pub records_of : (k : ℕ) → Form Operand → List Constraint

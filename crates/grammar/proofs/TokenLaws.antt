@@ -28,19 +28,6 @@ unfolding shape_of
 shape_some [] h = absurd (h refl)
 shape_some (b ∷ bs) h = refl
 
-module _ (w : List ℕ) (s : Spelled) (ss : List Spelled) where
-  pub look_stop : same_bytes w s.bytes ≡ true → s.token ≡ look_up w (s ∷ ss)
-  unfolding look_up
-  look_stop e = rw e
-
-  pub look_on : same_bytes w s.bytes ≡ false → look_up w (s ∷ ss) ≡ look_up w ss
-  unfolding look_up
-  look_on e = rw e
-
-pub look_done : (w : List ℕ) → shape_of w ≡ look_up w []
-unfolding look_up
-look_done w = refl
-
 -- ---- a test that each form word passes with its token, and a word with its shape, is passed by the word with its token
 abbrev pub all_spelled : (Spelled → Bool) → List Spelled → Bool
 all_spelled q [] = true

@@ -1,46 +1,34 @@
 -- The table that is being built: its records and names so far, the clocks that it defines, and its implicit clocks (document 02, M-101). Assumes
 -- nothing.
-use Rattle.std.specs.Prelude.{◌≡◌, refl, false, cond, List, [], ◌∷◌, map, ℕ, ◌+◌, ◌-◌, ltb, leb, set, take, replicate}
-use Rattle.constraint.specs.Lists.{empty}
+use Rattle.std.specs.Prelude.{◌≡◌, refl, false, cond, List, [], ◌∷◌, ◌++◌, map, ℕ, ◌+◌, ◌-◌, ltb, leb, length}
 use Rattle.constraint.specs.Meaning.{defined_of}
 use Rattle.constraint.specs.Ticks.{with_ticks}
 use Rattle.constraint.specs.declared.Clocks.{Clocks}
 use Rattle.constraint.specs.declared.Constraint.{Constraint}
-use Rattle.text.specs.Split.{span}
 use Rattle.grammar.specs.declared.Builder.{Builder}
-use Rattle.grammar.specs.declared.Implied.{Implied}
 use Rattle.grammar.specs.declared.Inner.{Inner}
 use Rattle.grammar.specs.declared.Names.{Names}
 use Rattle.grammar.specs.declared.Table.{Table}
 
 -- no constraint, and no name
+abbrev pub no_names : Names
+no_names = record { spans = []; over = false }
+
 abbrev pub empty_table : Table
-empty_table = record {
-  records = replicate 64 empty;
-  count = 0;
-  names = record { spans = replicate 32 (span 0 0); count = 0; over = false };
-  implicit = 0;
-}
+empty_table = record { records = []; names = no_names; implicit = 0 }
 
 abbrev pub start : Builder
-start = record { records = empty_table.records; count = 0; names = empty_table.names; defined = 0; implicit = 0 }
+start = record { table = empty_table; defined = 0 }
 
 -- ---- the implicit clocks of a line
 
 -- a constraint that defines the clock c
 abbrev pub defining : ℕ → Constraint → Constraint
-defining c r = record { kind = r.kind; defined = c; first = r.first; second = r.second; parameter = r.parameter; line = r.line }
-
--- a right side that defines the implicit clock c, and the constraint that it is; neither is on a line yet
-abbrev pub implied : ℕ → Constraint → Implied
-implied c r = record { kind = r.kind; defined = c; first = r.first; second = r.second; parameter = r.parameter }
-
-abbrev pub whole : Implied → Constraint
-whole d = record { kind = d.kind; defined = d.defined; first = d.first; second = d.second; parameter = d.parameter; line = record { 0 = 0 } }
+defining c r = record { kind = r.kind; defined = c; first = r.first; second = r.second; line = r.line }
 
 -- before a line's first: the lines above have this many
 abbrev pub no_inner : ℕ → Inner
-no_inner implicit = record { clocks = implicit; records = replicate 32 (implied 0 empty); count = 0 }
+no_inner implicit = record { clocks = implicit; definitions = [] }
 
 -- until all names are known they have the numbers from 32 on; they are counted to 33, which is more than any table may have
 abbrev pub provisional : ℕ → ℕ
@@ -49,32 +37,26 @@ provisional j = cond (ltb j 33) (32 + j) 65
 abbrev pub counted : ℕ → ℕ
 counted j = cond (ltb j 33) (j + 1) j
 
--- a right side in parentheses becomes one more, with a definition in the next slot; there is room for 32
+-- a right side in parentheses becomes one more, with a definition behind the others; there is room for 32
 abbrev pub with_implicit : Inner → Constraint → Inner
 with_implicit s r =
-    cond (leb 32 s.count)
-    (record { clocks = counted s.clocks; records = s.records; count = s.count })
-    (record { clocks = counted s.clocks; records = set s.records s.count (implied (provisional s.clocks) r); count = s.count + 1 })
-
-abbrev pub definitions : Inner → List Constraint
-definitions s = map whole (take s.count s.records)
+    cond (leb 32 (length s.definitions))
+    (record { clocks = counted s.clocks; definitions = s.definitions })
+    (record { clocks = counted s.clocks; definitions = s.definitions ++ defining (provisional s.clocks) r ∷ [] })
 
 -- ---- the constraints of a line
 
 -- a constraint on its line
 abbrev pub on_its_line : ℕ → Constraint → Constraint
-on_its_line n r = record { kind = r.kind; defined = r.defined; first = r.first; second = r.second; parameter = r.parameter; line = record { 0 = n } }
+on_its_line n r = record { kind = r.kind; defined = r.defined; first = r.first; second = r.second; line = record { 0 = n } }
 
--- one constraint more, on line n, in the next slot; a full table stays as it is
+-- one constraint more, on line n, behind the others; a full table stays as it is
 abbrev pub with_constraint : ℕ → Builder → Constraint → Builder
 with_constraint n b r =
-    cond (leb 64 b.count) b
+    cond (leb 64 (length b.table.records)) b
     (record {
-      records = set b.records b.count (on_its_line n r);
-      count = b.count + 1;
-      names = b.names;
+      table = record { records = b.table.records ++ on_its_line n r ∷ []; names = b.table.names; implicit = b.table.implicit };
       defined = with_ticks b.defined (defined_of r);
-      implicit = b.implicit;
     })
 
 unfoldable pub with_constraints : ℕ → Builder → List Constraint → Builder
@@ -83,11 +65,11 @@ with_constraints n b (r ∷ rs) = with_constraints n (with_constraint n b r) rs
 
 -- the names with those of a line, and its implicit clocks
 abbrev pub naming : Builder → Names → Inner → Builder
-naming b ns s = record { records = b.records; count = b.count; names = ns; defined = b.defined; implicit = s.clocks }
+naming b ns s = record { table = record { records = b.table.records; names = ns; implicit = s.clocks }; defined = b.defined }
 
 -- a line more: the definitions of its implicit clocks, and then its own constraint
 abbrev pub with_line : ℕ → Builder → Names → Inner → Constraint → Builder
-with_line n b ns s r = with_constraint n (with_constraints n (naming b ns s) (definitions s)) r
+with_line n b ns s r = with_constraint n (with_constraints n (naming b ns s) s.definitions) r
 
 -- ---- the table once its last line is read: the implicit clocks come straight behind the names
 
@@ -100,16 +82,18 @@ renumbered named r = record {
   defined = renumber named r.defined;
   first = renumber named r.first;
   second = renumber named r.second;
-  parameter = r.parameter;
   line = r.line;
 }
 
 abbrev pub finish : Builder → Table
-finish b = record { records = map (renumbered b.names.count) b.records; count = b.count; names = b.names; implicit = b.implicit }
+finish b = record { records = map (renumbered (length b.table.names.spans)) b.table.records; names = b.table.names; implicit = b.table.implicit }
 
--- a table's clocks
+-- a table's constraints, and its clocks
+abbrev pub constraints_in : Table → List Constraint
+constraints_in t = t.records
+
 abbrev pub clocks_in : Table → Clocks
-clocks_in t = record { named = t.names.count; count = t.names.count + t.implicit }
+clocks_in t = record { named = length t.names.spans; count = length t.names.spans + t.implicit }
 
 -- the first and the third implicit clock, behind five names
 behind_five : map (renumber 5) (provisional 0 ∷ provisional 2 ∷ 4 ∷ []) ≡ 5 ∷ 7 ∷ 4 ∷ []

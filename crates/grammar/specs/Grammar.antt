@@ -1,27 +1,24 @@
 -- The forms of a line, as readers of its words: what stands at their front, and the words after it (document 01, "Table text"; document 02,
 -- M-101 and M-105). Every reader of a form takes the reader of operands, and hands on what operands leave for the next one, of any type S; the reader of
 -- operands reads a name, or a right side in parentheses with one level less. t is the text up to the line's end. Assumes nothing.
-use Rattle.std.specs.Prelude.{Bool, true, false, not, cond, ◌&&◌, List, [], ◌∷◌, ℕ, zero, suc, leb, length}
-use Rattle.constraint.specs.Meaning.{packed}
+use Rattle.std.specs.Prelude.{Bool, true, false, not, cond, ◌&&◌, List, [], ◌∷◌, ℕ, zero, suc, leb, length, Option, Some, None, Result, Ok, Err}
+use Rattle.std.specs.List.{list_all}
+use Rattle.constraint.specs.Meaning.{delay_fits}
 use Rattle.constraint.specs.declared.Constraint.{Constraint}
 use Rattle.constraint.specs.declared.Definition.{Definition}
 use Rattle.constraint.specs.declared.Definition.TheVariants.{Union, Inter, Lub, Glb, Await as AwaitKind, StrictlySampled, Sampled, Upto, Deferred}
 use Rattle.constraint.specs.declared.Kind.{Kind}
 use Rattle.constraint.specs.declared.Kind.TheVariants.{Empty, Relates, Defines}
-use Rattle.constraint.specs.declared.Parameter.{Parameter}
 use Rattle.constraint.specs.declared.Relation.{Relation}
 use Rattle.constraint.specs.declared.Relation.TheVariants.{Coincides, Excludes, SubClock, StrictlyPrecedes, Precedes}
-use Rattle.text.specs.Digits.{number}
+use Rattle.text.specs.Digits.{read_decimal}
 use Rattle.text.specs.Split.{bytes_of, words_at, front, rest}
 use Rattle.text.specs.declared.Class.TheVariants.{Space}
-use Rattle.text.specs.declared.Number.{Number}
-use Rattle.text.specs.declared.Number.TheVariants.{NotDigits, TooLarge, Value}
+use Rattle.text.specs.declared.Spoilt.{Spoilt}
 use Rattle.text.specs.declared.Span.{Span}
 use Rattle.grammar.specs.Building.{defining, provisional, with_implicit}
 use Rattle.grammar.specs.Names.{number_in}
 use Rattle.grammar.specs.Tokens.{is, token_of}
-use Rattle.grammar.specs.declared.Found.{Found}
-use Rattle.grammar.specs.declared.Found.TheVariants.{At, Nothing}
 use Rattle.grammar.specs.declared.Inner.{Inner}
 use Rattle.grammar.specs.declared.Names.{Names}
 use Rattle.grammar.specs.declared.Token.{Token}
@@ -63,9 +60,9 @@ pub record Formed (S : Type 0) : Type 0 where
 abbrev pub Operands : Type 0 → Type 0
 Operands S = S → List Span → Parsed (Placed S)
 
-abbrev pub clock_of : Found → ℕ
-clock_of (At k) = k
-clock_of Nothing = 32
+abbrev pub clock_of : Option ℕ → ℕ
+clock_of (Some k) = k
+clock_of None = 32
 
 -- the clock whose name a word is
 abbrev pub clock_at : List ℕ → Names → Span → ℕ
@@ -89,11 +86,11 @@ strict_definition Union = Empty
 strict_definition Inter = Empty
 strict_definition Lub = Empty
 strict_definition Glb = Empty
-strict_definition AwaitKind = Empty
+strict_definition (AwaitKind n) = Empty
 strict_definition StrictlySampled = Empty
 strict_definition Sampled = Defines StrictlySampled
 strict_definition Upto = Empty
-strict_definition Deferred = Empty
+strict_definition (Deferred ns) = Empty
 
 abbrev pub strict_kind : Kind → Kind
 strict_kind Empty = Empty
@@ -133,20 +130,19 @@ is_kind (Defines k) = true
 -- ---- forms, over the reader of operands
 
 -- a number is the value of its digits; 0 stands for one above the most that there may be
-abbrev pub up_to : (most : ℕ) → Number → ℕ
-up_to most NotDigits = 0
-up_to most TooLarge = 0
-up_to most (Value n) = cond (leb n most) n 0
+abbrev pub up_to : (most : ℕ) → Result ℕ Spoilt → ℕ
+up_to most (Err e) = 0
+up_to most (Ok n) = cond (leb n most) n 0
 
 abbrev pub number_up_to : (most : ℕ) → List ℕ → ℕ
-number_up_to most ds = up_to most (number ds)
+number_up_to most ds = up_to most (read_decimal ds)
 
 -- the number of an await
 abbrev pub await_number : List ℕ → ℕ
 await_number ds = number_up_to 1_000_000 ds
 
-abbrev pub sides : Kind → (first second : ℕ) → Parameter → Constraint
-sides k a b n = record { kind = k; defined = 0; first = a; second = b; parameter = n; line = record { 0 = 0 } }
+abbrev pub sides : Kind → (first second : ℕ) → Constraint
+sides k a b = record { kind = k; defined = 0; first = a; second = b; line = record { 0 = 0 } }
 
 -- ---- the list of a delay: the digit runs behind `for`, up to the first other word
 
@@ -161,17 +157,16 @@ past_digits t (w ∷ ws) = cond (is Digits (token_of (bytes_of t w))) (past_digi
 
 -- one to eight numbers, each 1 to 32
 abbrev pub all_delays : List ℕ → Bool
-all_delays [] = true
-all_delays (n ∷ ns) = (leb 1 n && leb n 32) && all_delays ns
+all_delays ns = list_all delay_fits ns
 
 abbrev pub is_list : List ℕ → Bool
 is_list ns = (leb 1 (length ns) && leb (length ns) 8) && all_delays ns
 
--- as it is kept; 0 stands for one that is out of range
-abbrev pub listed : List ℕ → ℕ
-listed ns = cond (is_list ns) (packed ns) 0
+-- the list without a number stands for one that is out of range
+abbrev pub listed : List ℕ → List ℕ
+listed ns = cond (is_list ns) ns []
 
-abbrev pub delay_list : List ℕ → List Span → ℕ
+abbrev pub delay_list : List ℕ → List Span → List ℕ
 delay_list t ws = listed (delay_numbers t ws)
 
 abbrev pub is_deferred : Definition → Bool
@@ -179,23 +174,23 @@ is_deferred Union = false
 is_deferred Inter = false
 is_deferred Lub = false
 is_deferred Glb = false
-is_deferred AwaitKind = false
+is_deferred (AwaitKind n) = false
 is_deferred StrictlySampled = false
 is_deferred Sampled = false
 is_deferred Upto = false
-is_deferred Deferred = true
+is_deferred (Deferred ns) = true
 
 abbrev pub is_delay : Kind → Bool
 is_delay Empty = false
 is_delay (Relates k) = false
 is_delay (Defines k) = is_deferred k
 
--- what stands behind two operands with a kind between them: of a delay `for` and its list, else nothing
-unfoldable pub tail : List ℕ → Kind → List Span → Parsed Parameter
+-- what stands behind two operands with a kind between them, of a delay `for` and its list, else nothing; the kind with what it says
+unfoldable pub tail : List ℕ → Kind → List Span → Parsed Kind
 tail t k ws =
     cond (is_delay k)
-    (only_if (is For (token t ws)) (parsed (record { 0 = delay_list t (rest ws) }) (past_digits t (rest ws))))
-    (parsed (record { 0 = 0 }) ws)
+    (only_if (is For (token t ws)) (parsed (Defines (Deferred (delay_list t (rest ws)))) (past_digits t (rest ws))))
+    (parsed k ws)
 
 module _ {S : Type 0} (t : List ℕ) (operands : Operands S) where
   -- the second operand of a pair whose first is a, and what stands behind it
@@ -203,7 +198,7 @@ module _ {S : Type 0} (t : List ℕ) (operands : Operands S) where
   second k a =
       only_if (is_kind k.kind)
       (and_then (operands a.left k.after) (λ b us.
-      and_then (tail t k.kind us) (λ n ws. parsed (record { left = b.left; constraint = sides k.kind a.clock b.clock n }) ws)))
+      and_then (tail t k.kind us) (λ j ws. parsed (record { left = b.left; constraint = sides j a.clock b.clock }) ws)))
 
   -- two operands with a kind between them
   unfoldable pub pair : S → List Span → Parsed (Formed S)
@@ -213,7 +208,7 @@ module _ {S : Type 0} (t : List ℕ) (operands : Operands S) where
   unfoldable pub await_side : S → List Span → Parsed (Formed S)
   await_side s ws =
       only_if (is Digits (token t ws))
-      (and_then (operands s (rest ws)) (λ a us. parsed (record { left = a.left; constraint = sides (Defines AwaitKind) a.clock 0 (record { 0 = await_number (bytes_of t (front t ws)) }) }) us))
+      (and_then (operands s (rest ws)) (λ a us. parsed (record { left = a.left; constraint = sides (Defines (AwaitKind (await_number (bytes_of t (front t ws))))) a.clock 0 }) us))
 
   -- a right side: of clockDef, or of a line that is a relation
   unfoldable pub expression : S → List Span → Parsed (Formed S)

@@ -1,33 +1,31 @@
 -- The names of a table's clocks: "Clocks are numbered from 0 at first appearance" (document 01, "Table text"). Assumes nothing.
-use Rattle.std.specs.Prelude.{true, cond, List, [], ◌∷◌, ℕ, ◌+◌, leb, take, set}
+use Rattle.std.specs.Prelude.{true, cond, List, [], ◌∷◌, ◌++◌, ℕ, ◌+◌, leb, length, Option, Some, None}
 use Rattle.text.specs.Bytes.{same_bytes}
 use Rattle.text.specs.Split.{bytes_of}
 use Rattle.text.specs.declared.Span.{Span}
 use Rattle.grammar.specs.Tokens.{is, token_of}
-use Rattle.grammar.specs.declared.Found.{Found}
-use Rattle.grammar.specs.declared.Found.TheVariants.{At, Nothing}
 use Rattle.grammar.specs.declared.Names.{Names}
 use Rattle.grammar.specs.declared.Token.TheVariants.{Name}
 
 -- where a name stands among these spans of the text t, the first of which has the number i
-unfoldable pub position : List ℕ → List ℕ → ℕ → List Span → Found
-position t w i [] = Nothing
-position t w i (p ∷ ps) = cond (same_bytes (bytes_of t p) w) (At i) (position t w (i + 1) ps)
+unfoldable pub position : List ℕ → List ℕ → ℕ → List Span → Option ℕ
+position t w i [] = None
+position t w i (p ∷ ps) = cond (same_bytes (bytes_of t p) w) (Some i) (position t w (i + 1) ps)
 
 -- the number of the clock with a name
-abbrev pub number_in : List ℕ → Names → List ℕ → Found
-number_in t ns w = position t w 0 (take ns.count ns.spans)
+abbrev pub number_in : List ℕ → Names → List ℕ → Option ℕ
+number_in t ns w = position t w 0 ns.spans
 
 -- the names with one more: there is room for 32
 abbrev pub with_new : Names → Span → Names
 with_new ns p =
-    cond (leb 32 ns.count)
-    (record { spans = ns.spans; count = ns.count; over = true })
-    (record { spans = set ns.spans ns.count p; count = ns.count + 1; over = ns.over })
+    cond (leb 32 (length ns.spans))
+    (record { spans = ns.spans; over = true })
+    (record { spans = ns.spans ++ p ∷ []; over = ns.over })
 
-unfoldable pub unless_found : Found → Names → Span → Names
-unless_found (At k) ns p = ns
-unless_found Nothing ns p = with_new ns p
+unfoldable pub unless_found : Option ℕ → Names → Span → Names
+unless_found (Some k) ns p = ns
+unless_found None ns p = with_new ns p
 
 -- the names with that of a word, if it is a name, and a new one
 abbrev pub with_word : List ℕ → Names → Span → Names

@@ -44,7 +44,7 @@ parentheses =
 
 abbrev pub delay_words : List Spelled
 delay_words =
-    ascii "deferred" says Form (Defines Deferred) ∷
+    ascii "deferred" says Form (Defines (Deferred [])) ∷
     ascii "for" says For ∷
     parentheses
 

@@ -2,87 +2,66 @@
 ghost use Rattle.std.specs.Prelude.{◌≡◌};
 ghost use Rattle.grammar.specs.Building as d;
 
-use super::{Builder, Implied, Inner, Names, Table};
-use constraint::Constraint;
+use super::{Builder, Constraints, Inner, Names, Table};
+use constraint::{Constraint, TickSet};
 use limit::Place;
-use text::Span;
 
-// A table with no constraint and no name.
-pub fn empty_table() -> Table
-    ensures { result ≡ d.empty_table }
-{
-    Table {
-        records: [constraint::empty(); 64],
-        count: 0,
-        names: Names {
-            spans: [Span { start: 0, end: 0 }; 32],
-            count: 0,
-            over: false,
-        },
-        implicit: 0,
+impl Table {
+    // A table with no constraint and no name.
+    fn new() -> Self
+        ensures { result ≡ d.empty_table }
+    {
+        Table {
+            records: Constraints::new(),
+            names: Names::new(),
+            implicit: 0,
+        }
+    }
+
+    // The constraints, in table order.
+    pub fn constraints(&self) -> &[Constraint]
+        ensures { result.now ≡ d.constraints_in self.now }
+    {
+        self.records.as_slice()
     }
 }
 
-// The table before its first line.
-pub fn start() -> Builder
-    ensures { result ≡ d.start }
+// A constraint that defines a clock.
+fn defining(clock: u8, constraint: Constraint) -> Constraint
+    ensures { result ≡ d.defining clock constraint }
 {
-    let table = empty_table();
-    let records = table.records;
-    let names = table.names;
-    Builder {
-        records,
-        count: 0,
-        names,
-        defined: 0,
-        implicit: 0,
-    }
+    let mut own = constraint;
+    own.defined = clock;
+    own
 }
 
-// A right side as the definition of an implicit clock.
-fn implied(clock: u8, constraint: Constraint) -> Implied
-    ensures { result ≡ d.implied clock constraint }
-{
-    let kind = constraint.kind;
-    let parameter = constraint.parameter;
-    Implied {
-        kind,
-        defined: clock,
-        first: constraint.first,
-        second: constraint.second,
-        parameter,
+impl Inner {
+    // Before a line's first implicit clock, where the lines above have this many.
+    pub fn new(implicit: usize) -> Self
+        ensures { result ≡ d.no_inner implicit }
+    {
+        Inner {
+            clocks: implicit,
+            definitions: Constraints::new(),
+        }
     }
-}
 
-// The constraint that such a definition is.
-fn whole(definition: Implied) -> Constraint
-    ensures { result ≡ d.whole definition }
-{
-    let kind = definition.kind;
-    let parameter = definition.parameter;
-    Constraint {
-        kind,
-        defined: definition.defined,
-        first: definition.first,
-        second: definition.second,
-        parameter,
-        line: Place(0),
-    }
-}
-
-// Before a line's first implicit clock, where the lines above have this many.
-pub fn no_inner(implicit: usize) -> Inner
-    ensures { result ≡ d.no_inner implicit }
-{
-    Inner {
-        clocks: implicit,
-        records: [implied(0, constraint::empty()); 32],
-        count: 0,
+    // One implicit clock more, which a right side defines; and its number, until all names are known.
+    pub fn insert(&mut self, constraint: Constraint) -> u8
+        ensures clock { result ≡ d.provisional self.old.clocks }
+        ensures more { self.new ≡ d.with_implicit self.old constraint }
+    {
+        let clock = provisional(self.clocks);
+        self.clocks = counted(self.clocks);
+        if self.definitions.len() < 32 {
+            self.definitions.push(defining(clock, constraint));
+        }
+        clock
     }
 }
 
 // The number of the next implicit clock, until all names are known.
-pub fn provisional(clocks: usize) -> u8
+fn provisional(clocks: usize) -> u8
     ensures { result ≡ d.provisional clocks }
 {
     if clocks < 33 {
@@ -101,116 +80,78 @@ fn counted(clocks: usize) -> usize
     clocks
 }
 
-// One implicit clock more, which a right side defines.
-pub fn with_implicit(inner: Inner, constraint: Constraint) -> Inner
-    ensures { result ≡ d.with_implicit inner constraint }
-{
-    let k = inner.count;
-    let mut more = inner;
-    more.clocks = counted(inner.clocks);
-    if 32 <= k {
-        return more;
-    }
-    more.records[k] = implied(provisional(inner.clocks), constraint);
-    more.count = k + 1;
-    more
-}
-
-// The table with one constraint more, on its line.
-fn with_constraint(place: Place, builder: Builder, constraint: Constraint) -> Builder
-    ensures { result ≡ d.with_constraint place.0 builder constraint }
-{
-    let count = builder.count;
-    if 64 <= count {
-        return builder;
-    }
-    let mut own = constraint;
-    own.line = place;
-    let mut more = builder;
-    more.records[count] = own;
-    more.count = count + 1;
-    more.defined = constraint::with_defined(builder.defined, own);
-    more
-}
-
-// The table with the definitions of a line's implicit clocks.
-fn with_definitions(place: Place, builder: Builder, inner: Inner) -> Builder
-    ensures { result ≡ d.with_constraints place.0 builder (d.definitions inner) }
-{
-    let mut more = builder;
-    let mut i: usize = 0;
-    while i < inner.count {
-        if 32 <= i {
-            return more;
+impl Builder {
+    // Before the first line.
+    pub fn new() -> Self
+        ensures { result ≡ d.start }
+    {
+        Builder {
+            table: Table::new(),
+            defined: TickSet::EMPTY,
         }
-        let definition = inner.records[i];
-        more = with_constraint(place, more, whole(definition));
-        i += 1;
     }
-    more
-}
 
-// The table with a line's names, implicit clocks and constraint.
-pub fn with_line(
-    place: Place,
-    builder: Builder,
-    names: Names,
-    inner: Inner,
-    constraint: Constraint,
-) -> Builder
-    ensures { result ≡ d.with_line place.0 builder names inner constraint }
-{
-    let mut more = builder;
-    more.names = names;
-    more.implicit = inner.clocks;
-    if inner.count == 0 {
-        return with_constraint(place, more, constraint);
+    // One constraint more, on its line; a full table stays as it is.
+    fn push(&mut self, place: Place, constraint: Constraint)
+        ensures { self.new ≡ d.with_constraint place.0 self.old constraint }
+    {
+        if 64 <= self.table.records.len() {
+            return;
+        }
+        let mut own = constraint;
+        own.line = place;
+        self.defined = own.with_defined(self.defined);
+        self.table.records.push(own);
     }
-    with_constraint(place, with_definitions(place, more, inner), constraint)
+
+    // The constraints of a line: the definitions of its implicit clocks, and its own; the names have those of the line.
+    #[tactic(auto, unfolding(crate::specs::Building::with_constraints))]
+    pub fn insert(&mut self, place: Place, inner: Inner, constraint: Constraint)
+        ensures { self.new ≡ d.with_line place.0 self.old self.old.table.names inner constraint }
+    {
+        self.table.implicit = inner.clocks;
+        for definition in inner.definitions.as_slice() {
+            self.push(place, *definition);
+        }
+        self.push(place, constraint);
+    }
+
+    // The table once its last line is read.
+    pub fn finish(self) -> Table
+        ensures { result ≡ d.finish self }
+    {
+        let named = self.table.names.len();
+        let mut records = Constraints::new();
+        for constraint in self.table.records.as_slice() {
+            records.push(renumbered(named, constraint));
+        }
+        Table {
+            records,
+            names: self.table.names,
+            implicit: self.table.implicit,
+        }
+    }
 }
 
 // A clock's number behind this many names.
 fn renumber(named: usize, clock: u8) -> u8
     ensures { result ≡ d.renumber named clock }
 {
-    if clock < 32 {
-        return clock;
-    }
-    if 32 <= named {
+    if clock < 32 || 32 <= named {
         return clock;
     }
     clock - (32 - named as u8)
 }
 
 // A constraint with its clocks' numbers behind this many names.
-fn renumbered(named: usize, constraint: Constraint) -> Constraint
-    ensures { result ≡ d.renumbered named constraint }
+fn renumbered(named: usize, constraint: &Constraint) -> Constraint
+    ensures { result ≡ d.renumbered named constraint.now }
 {
-    let mut own = constraint;
-    own.defined = renumber(named, constraint.defined);
-    own.first = renumber(named, constraint.first);
-    own.second = renumber(named, constraint.second);
-    own
-}
-
-// The table once its last line is read.
-pub fn finish(builder: Builder) -> Table
-    ensures { result ≡ d.finish builder }
-{
-    let names = builder.names;
-    let named = names.count;
-    let before = builder.records;
-    let mut records = before;
-    let mut i: usize = 0;
-    while i < 64 {
-        let constraint = before[i];
-        records[i] = renumbered(named, constraint);
-        i += 1;
-    }
-    Table {
-        records,
-        count: builder.count,
-        names,
-        implicit: builder.implicit,
+    Constraint {
+        kind: constraint.kind,
+        defined: renumber(named, constraint.defined),
+        first: renumber(named, constraint.first),
+        second: renumber(named, constraint.second),
+        line: constraint.line,
     }
 }

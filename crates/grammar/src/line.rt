@@ -1,89 +1,27 @@
-// The form of a line: readers of operands, kinds, right sides and whole lines, each from an offset of the text that ends with
-// the line. A right side reads operands, and an operand in parentheses reads a right side, with one level less.
-ghost use Rattle.std.specs.Prelude.{◌≡◌, false, ℕ};
-ghost use Rattle.grammar.specs.Answers as a;
+// The form of a line: methods that read operands, kinds, right sides and whole lines from the words that are left. A right side reads
+// operands, and an operand in parentheses reads a right side, with one level less.
+ghost use Rattle.std.specs.Prelude.{◌≡◌};
+ghost use Rattle.grammar.specs.Answers.{kind_of};
 ghost use Rattle.grammar.specs.Grammar as g;
+ghost use Rattle.grammar.specs.Names.{number_in};
 
-use super::building::{provisional, with_implicit};
 use super::list::{delay_list, number_up_to};
-use super::naming::find_name;
-use super::words::{is, word_at};
-use super::{FormRead, Found, Inner, KindRead, Names, OperandRead, TailRead, Token, WordRead};
-use constraint::{Constraint, Definition, Kind, Parameter, Relation};
+use super::words::eat;
+use super::{LineReader, Token};
+use constraint::{Constraint, Definition, Kind, Relation};
 use limit::Place;
-use text::{Class, Span};
 
-// The clock that a look-up finds; a name that there is no room for has none.
-fn clock_of(found: Found) -> u8
-    ensures { result ≡ g.clock_of found }
-{
-    match found {
-        Found::At(k) => k,
-        Found::Nothing => 32,
-    }
-}
-
-// The clock whose name a word is.
-fn clock_at(line: &[u8], names: Names, word: Span) -> u8
-    ensures { result ≡ g.clock_at line.now names word }
-{
-    clock_of(find_name(line, names, text::part(line, word)))
-}
-
-// An operand that is the name of a clock: by the word that stands there.
-fn name(line: &[u8], names: Names, inner: Inner, word: WordRead) -> OperandRead
-    ensures { (at : ℕ) → a.FirstWord line.now at word → a.operand_read line.now result ≡ g.name line.now names inner (g.line_words line.now at) }
-{
-    if !is(Token::Name, word) {
-        return no_operand(inner);
-    }
-    let span = word.span;
-    OperandRead {
-        fits: true,
-        at: span.end,
-        clock: clock_at(line, names, span),
-        inner,
-    }
-}
-
-// `strictly` in front of the word of a relation.
-fn strict_relation(k: Relation) -> Kind
-    ensures { result ≡ g.strict_relation k }
-{
-    match k {
-        Relation::Coincides => Kind::Empty,
-        Relation::Excludes => Kind::Empty,
-        Relation::SubClock => Kind::Empty,
-        Relation::StrictlyPrecedes => Kind::Empty,
-        Relation::Precedes => Kind::Relates(Relation::StrictlyPrecedes),
-    }
-}
-
-// `strictly` in front of the word of a definition.
-fn strict_definition(k: Definition) -> Kind
-    ensures { result ≡ g.strict_definition k }
-{
-    match k {
-        Definition::Union => Kind::Empty,
-        Definition::Inter => Kind::Empty,
-        Definition::Lub => Kind::Empty,
-        Definition::Glb => Kind::Empty,
-        Definition::Await => Kind::Empty,
-        Definition::StrictlySampled => Kind::Empty,
-        Definition::Sampled => Kind::Defines(Definition::StrictlySampled),
-        Definition::Upto => Kind::Empty,
-        Definition::Deferred => Kind::Empty,
-    }
-}
+// What stands for the clock of a name that there is no room for.
+const NO_CLOCK: u8 = 32;
 
 // `strictly` in front of the word of a kind.
 fn strict_kind(kind: Kind) -> Kind
     ensures { result ≡ g.strict_kind kind }
 {
     match kind {
-        Kind::Empty => Kind::Empty,
-        Kind::Relates(k) => strict_relation(k),
-        Kind::Defines(k) => strict_definition(k),
+        Kind::Relates(Relation::Precedes) => Kind::Relates(Relation::StrictlyPrecedes),
+        Kind::Defines(Definition::Sampled) => Kind::Defines(Definition::StrictlySampled),
+        _ => Kind::Empty,
     }
 }
 
@@ -92,229 +30,38 @@ fn plain(token: Token) -> Kind
     ensures { result ≡ g.plain token }
 {
     match token {
-        Token::End => Kind::Empty,
-        Token::Other => Kind::Empty,
-        Token::Name => Kind::Empty,
-        Token::Digits => Kind::Empty,
-        Token::ClockDef => Kind::Empty,
-        Token::Await => Kind::Empty,
-        Token::Strictly => Kind::Empty,
         Token::Form(kind) => kind,
-        Token::Open => Kind::Empty,
-        Token::Close => Kind::Empty,
-        Token::For => Kind::Empty,
+        _ => Kind::Empty,
     }
 }
 
-// A kind: one word, or two where the first is `strictly`.
-fn kind_at(line: &[u8], at: usize) -> KindRead
-    ensures { a.kind_read line.now result ≡ g.kind_at line.now (g.line_words line.now at) }
+// The kind that a word says, with or without `strictly` in front.
+fn kind_of(token: Token, strict: bool) -> Kind
+    ensures { result ≡ kind_of token strict }
 {
-    let word = word_at(line, at);
-    if !is(Token::Strictly, word) {
-        let token = word.token;
-        return KindRead {
-            kind: plain(token),
-            at: word.span.end,
-        };
+    if strict {
+        return strict_kind(plain(token));
     }
-    let second = word_at(line, word.span.end);
-    let token = second.token;
-    KindRead {
-        kind: strict_kind(plain(token)),
-        at: second.span.end,
-    }
+    plain(token)
 }
 
-fn is_kind(kind: Kind) -> bool
-    ensures { result ≡ g.is_kind kind }
+// Whether a kind is one at all.
+fn is_kind(kind: &Kind) -> bool
+    ensures { result ≡ g.is_kind kind.now }
 {
-    match kind {
-        Kind::Empty => false,
-        Kind::Relates(_) => true,
-        Kind::Defines(_) => true,
-    }
-}
-
-// A constraint of two operands that defines no clock yet, on no line yet.
-fn sides(kind: Kind, first: u8, second: u8, parameter: Parameter) -> Constraint
-    ensures { result ≡ g.sides kind first second parameter }
-{
-    Constraint {
-        kind,
-        defined: 0,
-        first,
-        second,
-        parameter,
-        line: Place(0),
-    }
-}
-
-// The answer that no operand fits, and that no form does.
-fn no_operand(inner: Inner) -> OperandRead
-    ensures { result.fits ≡ false }
-{
-    OperandRead {
-        fits: false,
-        at: 0,
-        clock: 0,
-        inner,
-    }
-}
-
-fn no_form(inner: Inner) -> FormRead
-    ensures { result.fits ≡ false }
-{
-    FormRead {
-        fits: false,
-        at: 0,
-        constraint: sides(Kind::Empty, 0, 0, Parameter(0)),
-        inner,
-    }
-}
-
-// Whether a definition is a delay.
-fn is_deferred(k: Definition) -> bool
-    ensures { result ≡ g.is_deferred k }
-{
-    match k {
-        Definition::Union => false,
-        Definition::Inter => false,
-        Definition::Lub => false,
-        Definition::Glb => false,
-        Definition::Await => false,
-        Definition::StrictlySampled => false,
-        Definition::Sampled => false,
-        Definition::Upto => false,
-        Definition::Deferred => true,
-    }
+    !matches!(kind, Kind::Empty)
 }
 
 // Whether a kind is a delay.
-fn is_delay(kind: Kind) -> bool
-    ensures { result ≡ g.is_delay kind }
+fn is_delay(kind: &Kind) -> bool
+    ensures { result ≡ g.is_delay kind.now }
 {
-    match kind {
-        Kind::Empty => false,
-        Kind::Relates(_) => false,
-        Kind::Defines(k) => is_deferred(k),
-    }
-}
-
-// What stands behind two operands: of a delay `for` and its list, else nothing.
-fn tail(line: &[u8], kind: Kind, at: usize) -> TailRead
-    ensures { a.tail_read line.now result ≡ g.tail line.now kind (g.line_words line.now at) }
-{
-    if !is_delay(kind) {
-        return TailRead {
-            fits: true,
-            at,
-            parameter: Parameter(0),
-        };
-    }
-    let word = word_at(line, at);
-    if !is(Token::For, word) {
-        return TailRead {
-            fits: false,
-            at: 0,
-            parameter: Parameter(0),
-        };
-    }
-    let read = delay_list(line, word.span.end);
-    TailRead {
-        fits: true,
-        at: read.at,
-        parameter: Parameter(read.list),
-    }
-}
-
-// A right side: a number and an operand behind `await`, or two operands with a kind between them, of a delay with its list behind them. Of a pair, an operand that is a
-// name is read here, since a call would copy the implicit clocks.
-#[cycle(expression_operand)]
-fn expression(line: &[u8], names: Names, inner: Inner, at: usize, level: usize) -> FormRead
-    ensures { a.form_read line.now result ≡ g.expression line.now (g.operand line.now names level) inner (g.line_words line.now at) }
-{
-    let word = word_at(line, at);
-    if is(Token::Await, word) {
-        let number = word_at(line, word.span.end);
-        if !is(Token::Digits, number) {
-            return no_form(inner);
-        }
-        let awaited = operand(line, names, inner, number.span.end, level);
-        let left = awaited.inner;
-        if !awaited.fits {
-            return no_form(left);
-        }
-        let digits = number.span;
-        let n = number_up_to(1000000, text::part(line, digits));
-        return FormRead {
-            fits: true,
-            at: awaited.at,
-            constraint: sides(
-                Kind::Defines(Definition::Await),
-                awaited.clock,
-                0,
-                Parameter(n),
-            ),
-            inner: left,
-        };
-    }
-    let first = if is(Token::Name, word) {
-        let span = word.span;
-        OperandRead {
-            fits: true,
-            at: span.end,
-            clock: clock_at(line, names, span),
-            inner,
-        }
-    } else {
-        operand(line, names, inner, at, level)
-    };
-    let between = first.inner;
-    if !first.fits {
-        return no_form(between);
-    }
-    let read = kind_at(line, first.at);
-    let kind = read.kind;
-    if !is_kind(kind) {
-        return no_form(between);
-    }
-    let next = word_at(line, read.at);
-    if is(Token::Name, next) {
-        let span = next.span;
-        let behind = tail(line, kind, span.end);
-        if !behind.fits {
-            return no_form(between);
-        }
-        let n = behind.parameter;
-        return FormRead {
-            fits: true,
-            at: behind.at,
-            constraint: sides(kind, first.clock, clock_at(line, names, span), n),
-            inner: between,
-        };
-    }
-    let second = operand(line, names, between, read.at, level);
-    let left = second.inner;
-    if !second.fits {
-        return no_form(left);
-    }
-    let behind = tail(line, kind, second.at);
-    if !behind.fits {
-        return no_form(left);
-    }
-    let n = behind.parameter;
-    FormRead {
-        fits: true,
-        at: behind.at,
-        constraint: sides(kind, first.clock, second.clock, n),
-        inner: left,
-    }
+    matches!(kind, Kind::Defines(Definition::Deferred(_)))
 }
 
 // Whether a kind is of the side that is asked for: a definition behind clockDef and in parentheses, a relation in any other line.
-fn is_side(definition: bool, kind: Kind) -> bool
-    ensures { result ≡ g.is_side definition kind }
+fn is_side(definition: bool, kind: &Kind) -> bool
+    ensures { result ≡ g.is_side definition kind.now }
 {
     match kind {
         Kind::Empty => false,
@@ -323,83 +70,186 @@ fn is_side(definition: bool, kind: Kind) -> bool
     }
 }
 
-// The closing parenthesis behind a right side, which becomes an implicit clock.
-fn enclosed(line: &[u8], form: FormRead) -> OperandRead
-    ensures { a.operand_read line.now result ≡ g.and_then (a.form_read line.now form) (g.inner line.now) }
+// A constraint of two operands that defines no clock yet, on no line yet.
+fn sides(kind: Kind, first: u8, second: u8) -> Constraint
+    ensures { result ≡ g.sides kind first second }
 {
-    let inner = form.inner;
-    if !form.fits {
-        return no_operand(inner);
-    }
-    let word = word_at(line, form.at);
-    let constraint = form.constraint;
-    let kind = constraint.kind;
-    if !(is(Token::Close, word) & is_side(true, kind)) {
-        return no_operand(inner);
-    }
-    OperandRead {
-        fits: true,
-        at: word.span.end,
-        clock: provisional(inner.clocks),
-        inner: with_implicit(inner, constraint),
+    Constraint {
+        kind,
+        defined: 0,
+        first,
+        second,
+        line: Place(0),
     }
 }
 
-// An operand: a name, or a right side in parentheses, which use up one of the levels that are left.
-#[cycle(expression_operand)]
-fn operand(line: &[u8], names: Names, inner: Inner, at: usize, level: usize) -> OperandRead
-    ensures { a.operand_read line.now result ≡ g.operand line.now names level inner (g.line_words line.now at) }
-{
-    let word = word_at(line, at);
-    if level == 0 {
-        return name(line, names, inner, word);
-    }
-    if !is(Token::Open, word) {
-        return name(line, names, inner, word);
-    }
-    enclosed(
-        line,
-        expression(line, names, inner, word.span.end, level - 1),
-    )
-}
+impl<'a> LineReader<'a> {
+    ghost use Rattle.std.specs.Prelude.{◌≡◌};
+    ghost use Rattle.grammar.specs.Answers.{line, left, operands, Keeps, Defines, clock_read, kind_read, kind_in, word_kind, form_read};
 
-// A form of the side that the line asks for, with no word after it, which defines a clock.
-fn closed(line: &[u8], definition: bool, clock: u8, form: FormRead) -> FormRead
-    ensures { a.form_read line.now result ≡ g.closed definition clock (a.form_read line.now form) }
-{
-    let inner = form.inner;
-    if !form.fits {
-        return no_form(inner);
+    // The clock whose name a word is; a name that there is no room for has none.
+    fn clock(&self, name: &[u8]) -> u8
+        ensures { result ≡ g.clock_of (number_in (line self.now) self.now.names.now name.now) }
+    {
+        let names = self.names;
+        names.find(self.words.text, name).unwrap_or(NO_CLOCK)
     }
-    let at = form.at;
-    let word = text::next_word(Class::Space, line, at);
-    if word.start < word.end {
-        return no_form(inner);
-    }
-    let mut constraint = form.constraint;
-    let kind = constraint.kind;
-    if !is_side(definition, kind) {
-        return no_form(inner);
-    }
-    constraint.defined = clock;
-    FormRead {
-        fits: true,
-        at,
-        constraint,
-        inner,
-    }
-}
 
-// A line: a clock, clockDef and a right side, or a relation.
-pub fn line_form(line: &[u8], names: Names, inner: Inner, at: usize, levels: usize) -> FormRead
-    ensures { a.form_read line.now result ≡ g.form_in line.now levels names inner (g.line_words line.now at) }
-{
-    let clock = word_at(line, at);
-    let second = word_at(line, clock.span.end);
-    if is(Token::Name, clock) & is(Token::ClockDef, second) {
-        let form = expression(line, names, inner, second.span.end, levels);
-        let name = clock.span;
-        return closed(line, true, clock_at(line, names, name), form);
+    // An operand that is the name of a clock.
+    #[tactic(auto, unfolding(crate::specs::Grammar::name, crate::specs::Grammar::only_if))]
+    fn name(&mut self) -> Option<u8>
+        ensures found { clock_read result self.new ≡ g.name (line self.old) self.old.names.now self.old.inner (left self.old) }
+        ensures kept { Keeps self.old self.new }
+    {
+        let word = eat(&mut self.words, Token::Name)?;
+        Some(self.clock(word))
     }
-    closed(line, false, 0, expression(line, names, inner, at, levels))
+
+    // A kind: one word, or two where the first is `strictly`.
+    #[tactic(auto, unfolding(crate::specs::Grammar::kind_at))]
+    fn kind(&mut self) -> Option<Kind>
+        ensures found { kind_read result self.new ≡ kind_in (g.kind_at (line self.old) (left self.old)) }
+        ensures kept { Keeps self.old self.new }
+        ensures inner { self.new.inner ≡ self.old.inner }
+    {
+        if eat(&mut self.words, Token::Strictly).is_some() {
+            return self.kind_word(true);
+        }
+        self.kind_word(false)
+    }
+
+    // The word of a kind, with or without `strictly` in front.
+    #[tactic(auto, using(crate::proofs::GrammarLaws::end_token), unfolding(crate::specs::Grammar::only_if, text::specs::Split::front, text::specs::Split::rest))]
+    fn kind_word(&mut self, strict: bool) -> Option<Kind>
+        ensures found { kind_read result self.new ≡ kind_in (word_kind strict (line self.old) (left self.old)) }
+        ensures kept { Keeps self.old self.new }
+        ensures inner { self.new.inner ≡ self.old.inner }
+    {
+        let word = self.words.next()?;
+        let kind = kind_of(Token::of(word.bytes), strict);
+        if !is_kind(&kind) {
+            return None;
+        }
+        Some(kind)
+    }
+
+    // What stands behind two operands with this kind between them: of a delay `for` and its list, else nothing; the kind with what it says.
+    #[tactic(auto, unfolding(crate::specs::Grammar::tail, crate::specs::Grammar::only_if))]
+    fn tail(&mut self, kind: Kind) -> Option<Kind>
+        ensures found { kind_read result self.new ≡ g.tail (line self.old) kind (left self.old) }
+        ensures kept { Keeps self.old self.new }
+        ensures inner { self.new.inner ≡ self.old.inner }
+    {
+        if !is_delay(&kind) {
+            return Some(kind);
+        }
+        eat(&mut self.words, Token::For)?;
+        Some(Kind::Defines(Definition::Deferred(delay_list(&mut self.words))))
+    }
+
+    // A number and an operand, behind `await`.
+    #[cycle(operands)]
+    #[tactic(auto, unfolding(crate::specs::Grammar::await_side, crate::specs::Grammar::and_then, crate::specs::Grammar::only_if))]
+    fn await_side(&mut self, level: usize) -> Option<Constraint>
+        ensures found { form_read result self.new ≡ g.await_side (line self.old) (operands self.old level) self.old.inner (left self.old) }
+        ensures kept { Keeps self.old self.new }
+    {
+        let digits = eat(&mut self.words, Token::Digits)?;
+        let clock = self.operand(level)?;
+        let n = number_up_to(1_000_000, digits);
+        Some(sides(Kind::Defines(Definition::Await(n)), clock, 0))
+    }
+
+    // Two operands with a kind between them, of a delay with its list behind them.
+    #[cycle(operands)]
+    #[tactic(auto, unfolding(crate::specs::Grammar::pair, crate::specs::Grammar::second, crate::specs::Grammar::and_then, crate::specs::Grammar::only_if))]
+    fn pair(&mut self, level: usize) -> Option<Constraint>
+        ensures found { form_read result self.new ≡ g.pair (line self.old) (operands self.old level) self.old.inner (left self.old) }
+        ensures kept { Keeps self.old self.new }
+    {
+        let first = self.operand(level)?;
+        let between = self.kind()?;
+        let second = self.operand(level)?;
+        let kind = self.tail(between)?;
+        Some(sides(kind, first, second))
+    }
+
+    // A right side.
+    #[cycle(operands)]
+    #[tactic(auto, unfolding(crate::specs::Grammar::expression))]
+    fn expression(&mut self, level: usize) -> Option<Constraint>
+        ensures found { form_read result self.new ≡ g.expression (line self.old) (operands self.old level) self.old.inner (left self.old) }
+        ensures kept { Keeps self.old self.new }
+    {
+        if eat(&mut self.words, Token::Await).is_some() {
+            return self.await_side(level);
+        }
+        self.pair(level)
+    }
+
+    // An operand: a name, or a right side in parentheses, which uses up one of the levels that are left and becomes an
+    // implicit clock.
+    #[cycle(operands)]
+    #[tactic(auto, using(crate::proofs::GrammarLaws::operand_flat, crate::proofs::GrammarLaws::operand_name, crate::proofs::GrammarLaws::operand_inner), unfolding(crate::specs::Grammar::inner, crate::specs::Grammar::and_then, crate::specs::Grammar::only_if))]
+    fn operand(&mut self, level: usize) -> Option<u8>
+        ensures found { clock_read result self.new ≡ operands self.old level self.old.inner (left self.old) }
+        ensures kept { Keeps self.old self.new }
+    {
+        if level == 0 || eat(&mut self.words, Token::Open).is_none() {
+            return self.name();
+        }
+        // With `?` this method gets no proof, a constraint being none of its own types.
+        let Some(constraint) = self.expression(level - 1) else {
+            return None;
+        };
+        self.enclosed(constraint)
+    }
+
+    // The closing parenthesis behind a right side, which becomes an implicit clock.
+    #[tactic(auto, unfolding(crate::specs::Grammar::inner, crate::specs::Grammar::only_if))]
+    fn enclosed(&mut self, constraint: Constraint) -> Option<u8>
+        ensures found { clock_read result self.new ≡ g.inner (line self.old) (record { left = self.old.inner; constraint = constraint }) (left self.old) }
+        ensures kept { Keeps self.old self.new }
+    {
+        eat(&mut self.words, Token::Close)?;
+        if !is_side(true, &constraint.kind) {
+            return None;
+        }
+        Some(self.inner.insert(constraint))
+    }
+
+    // The clock that a line defines, where the line begins with a name and clockDef.
+    fn defined(&mut self) -> Option<u8>
+        ensures { Defines self.old result self.new }
+    {
+        let mut ahead = self.words;
+        let name = eat(&mut ahead, Token::Name)?;
+        eat(&mut ahead, Token::ClockDef)?;
+        self.words = ahead;
+        Some(self.clock(name))
+    }
+
+    // A form of the side that the line asks for, with no word after it, which defines a clock.
+    #[tactic(auto, unfolding(crate::specs::Grammar::at_end, crate::specs::Grammar::and_then, crate::specs::Grammar::only_if))]
+    fn closed(&mut self, definition: bool, clock: u8, levels: usize) -> Option<Constraint>
+        ensures { form_read result self.new ≡ g.closed definition clock (g.expression (line self.old) (operands self.old levels) self.old.inner (left self.old)) }
+    {
+        let mut constraint = self.expression(levels)?;
+        if self.words.next().is_some() || !is_side(definition, &constraint.kind) {
+            return None;
+        }
+        constraint.defined = clock;
+        Some(constraint)
+    }
+
+    // A line: a clock, clockDef and a right side, or a relation.
+    #[tactic(auto, unfolding(crate::specs::Grammar::line_form))]
+    pub fn line_form(&mut self, levels: usize) -> Option<Constraint>
+        ensures { form_read result self.new ≡ g.form_in (line self.old) levels self.old.names.now self.old.inner (left self.old) }
+    {
+        match self.defined() {
+            Some(clock) => self.closed(true, clock, levels),
+            None => self.closed(false, 0, levels),
+        }
+    }
 }

@@ -1,13 +1,14 @@
-// Words of a line, told apart: the words of the forms, names, digits.
+// Words of a line, told apart: the words of the forms, names, digits. One test a word, since a match on byte strings is to be proved byte by byte.
 ghost use Rattle.std.specs.Prelude.{◌≡◌};
-ghost use Rattle.grammar.specs.Answers.{FirstWord};
+ghost use Rattle.grammar.specs.Answers.{TakesWord};
 ghost use Rattle.grammar.specs.Tokens as t;
 
-use super::{Token, WordRead};
-use constraint::{Definition, Kind, Relation};
-use text::Class;
+use super::Token;
+use constraint::{Definition, Delays, Kind, Relation};
+use text::{Class, Words};
 
 // What a word without a place in a form is.
+#[tactic(auto, using(crate::proofs::TokenLaws::shape_none, crate::proofs::TokenLaws::shape_some))]
 fn shape(word: &[u8]) -> Token
     ensures { result ≡ t.shape_of word.now }
 {
@@ -17,16 +18,14 @@ fn shape(word: &[u8]) -> Token
     if text::all_from(Class::Digit, word, 0) {
         return Token::Digits;
     }
-    if !text::in_class(Class::Letter, word[0]) {
-        return Token::Other;
-    }
-    if text::all_from(Class::NameByte, word, 0) {
+    if Class::Letter.contains(word[0]) && text::all_from(Class::NameByte, word, 0) {
         return Token::Name;
     }
     Token::Other
 }
 
 // Parentheses, and shapes.
+#[tactic(auto, unfolding(crate::specs::Tokens::look_up))]
 fn parenthesis(word: &[u8]) -> Token
     ensures { result ≡ t.look_up word.now t.parentheses }
 {
@@ -40,11 +39,12 @@ fn parenthesis(word: &[u8]) -> Token
 }
 
 // The words of a delay, parentheses, and shapes.
+#[tactic(auto, unfolding(crate::specs::Tokens::look_up))]
 fn delay_word(word: &[u8]) -> Token
     ensures { result ≡ t.look_up word.now t.delay_words }
 {
     if text::same_bytes(word, b"deferred") {
-        return Token::Form(Kind::Defines(Definition::Deferred));
+        return Token::Form(Kind::Defines(Definition::Deferred(Delays::new())));
     }
     if text::same_bytes(word, b"for") {
         return Token::For;
@@ -53,6 +53,7 @@ fn delay_word(word: &[u8]) -> Token
 }
 
 // The words of the right sides of clockDef, parentheses, and shapes.
+#[tactic(auto, unfolding(crate::specs::Tokens::look_up))]
 fn definition_word(word: &[u8]) -> Token
     ensures { result ≡ t.look_up word.now t.definition_words }
 {
@@ -80,65 +81,53 @@ fn definition_word(word: &[u8]) -> Token
     delay_word(word)
 }
 
-// What a word is.
-fn token(word: &[u8]) -> Token
-    ensures { result ≡ t.token_of word.now }
-{
-    if text::same_bytes(word, b"=") {
-        return Token::Form(Kind::Relates(Relation::Coincides));
+impl Token {
+    // What a word is.
+    #[tactic(auto, unfolding(crate::specs::Tokens::look_up))]
+    pub fn of(word: &[u8]) -> Token
+        ensures { result ≡ t.token_of word.now }
+    {
+        if text::same_bytes(word, b"=") {
+            return Token::Form(Kind::Relates(Relation::Coincides));
+        }
+        if text::same_bytes(word, b"#") {
+            return Token::Form(Kind::Relates(Relation::Excludes));
+        }
+        if text::same_bytes(word, b"isSubClockOf") {
+            return Token::Form(Kind::Relates(Relation::SubClock));
+        }
+        if text::same_bytes(word, b"precedes") {
+            return Token::Form(Kind::Relates(Relation::Precedes));
+        }
+        if text::same_bytes(word, b"strictly") {
+            return Token::Strictly;
+        }
+        if text::same_bytes(word, b"clockDef") {
+            return Token::ClockDef;
+        }
+        definition_word(word)
     }
-    if text::same_bytes(word, b"#") {
-        return Token::Form(Kind::Relates(Relation::Excludes));
-    }
-    if text::same_bytes(word, b"isSubClockOf") {
-        return Token::Form(Kind::Relates(Relation::SubClock));
-    }
-    if text::same_bytes(word, b"precedes") {
-        return Token::Form(Kind::Relates(Relation::Precedes));
-    }
-    if text::same_bytes(word, b"strictly") {
-        return Token::Strictly;
-    }
-    if text::same_bytes(word, b"clockDef") {
-        return Token::ClockDef;
-    }
-    definition_word(word)
-}
 
-// The first word of a line from an offset on, and what it is.
-pub fn word_at(line: &[u8], at: usize) -> WordRead
-    ensures { FirstWord line.now at result }
-{
-    let span = text::next_word(Class::Space, line, at);
-    WordRead {
-        span,
-        token: token(text::part(line, span)),
-    }
-}
-
-// The place of a token among its kind.
-fn tag(token: Token) -> u8
-    ensures { result ≡ t.tag token }
-{
-    match token {
-        Token::End => 0,
-        Token::Other => 1,
-        Token::Name => 2,
-        Token::Digits => 3,
-        Token::ClockDef => 4,
-        Token::Await => 5,
-        Token::Strictly => 6,
-        Token::Form(_) => 7,
-        Token::Open => 8,
-        Token::Close => 9,
-        Token::For => 10,
+    // Whether two tokens are of one kind, as all forms are.
+    pub fn is(self, like: Token) -> bool
+        ensures { result ≡ t.is like self }
+    {
+        match (self, like) {
+            (Token::Form(_), Token::Form(_)) => true,
+            (one, other) => one == other,
+        }
     }
 }
 
-// Whether a word is one like a token.
-pub fn is(like: Token, word: WordRead) -> bool
-    ensures { result ≡ t.is like word.token }
+// Takes the next word, if it is one like a token.
+pub fn eat<'a>(words: &mut Words<'a>, like: Token) -> Option<&'a [u8]>
+    ensures { TakesWord like words.old result words.new }
 {
-    let token = word.token;
-    tag(like) == tag(token)
+    let span = text::next_word(words.class, words.text, words.at);
+    let bytes = span.of(words.text);
+    if !Token::of(bytes).is(like) {
+        return None;
+    }
+    words.at = span.end;
+    Some(bytes)
 }

@@ -9,6 +9,7 @@ use borrow.Author.Tests.{lt-ltb, le-ltb, ltb-true, ltb-false}
 use lib.Dec.{ltb}
 use lib.IntN.{pos}
 use lib.ListN.{length}
+use Rattle.std.specs.Prelude.{Option, None, Some, Ok, Err}
 use Rattle.limit.specs.declared.Limit.TheVariants.{Records, ConfigurationWord, TickSet}
 use Rattle.limit.specs.declared.Place.{Place}
 use Rattle.limit.specs.Limit.{number_of}
@@ -19,8 +20,6 @@ use Rattle.constraint.specs.Meaning.{word, holds, next_word, in_range}
 use Rattle.constraint.specs.Million.{in_million, first_past}
 use Rattle.constraint.specs.SamePlace.{record_at, word_at}
 use Rattle.constraint.specs.Ticks.{Ticks}
-use Rattle.constraint.specs.declared.Broken.{Broken}
-use Rattle.constraint.specs.declared.Broken.TheVariants.{Nowhere, At}
 use Rattle.constraint.specs.declared.Clocks.{Clocks}
 use Rattle.constraint.specs.declared.Configuration.{Configuration}
 use Rattle.constraint.specs.declared.Constraint.{Constraint}
@@ -32,8 +31,8 @@ use Rattle.constraint.proofs.Words.{only_zero}
 use Rattle.judging.specs.Answers.{HasBoth, Holds, Stays, All, FirstNot, Passes, StepRefuses, by_records, by_words, by_ticks, by_million, StepViolates, StepAccepts, EveryStepAnswers}
 use Rattle.judging.specs.Single.{StepSaid, accepted, violated, refused, StepTold, StepSaidDetermines, refuses_at, beyond_clocks, all_ticks, judged_told, step_of}
 use Rattle.judging.specs.Step.{first_failing, moved, handed_back, judged}
-use Rattle.judging.specs.declared.Outcome.TheVariants.{Held, Failed, PastMillion}
-use Rattle.judging.specs.declared.StepAnswer.TheVariants.{Accepted, Violated, Refused}
+use Rattle.judging.specs.declared.NotHeld.TheVariants.{Failed, PastMillion}
+use Rattle.judging.specs.declared.Stopped.TheVariants.{Violated, Refused}
 use Rattle.judging.proofs.StepLaws.{length_moved}
 
 -- ---- the words after a step, one by one
@@ -50,7 +49,7 @@ moved_beyond F (r ∷ rs) [] i h = refl
 moved_beyond F (r ∷ rs) (w ∷ ws) zero h = absurd (omega arith)
 moved_beyond F (r ∷ rs) (w ∷ ws) (suc i) h = moved_beyond F rs ws i (omega arith)
 
-zero_beyond : (k : ℕ) (rs : List Constraint) (ws : List Word) (i : ℕ) → first_out k rs ws ≡ Nowhere → length rs ≤ i → word_at ws i ≡ word (pos 0)
+zero_beyond : (k : ℕ) (rs : List Constraint) (ws : List Word) (i : ℕ) → first_out k rs ws ≡ None → length rs ≤ i → word_at ws i ≡ word (pos 0)
 zero_beyond k rs [] i e h = refl
 zero_beyond k [] (w ∷ ws) zero e h = only_zero w (nowhere (in_range empty w) _ k e).0
 zero_beyond k [] (w ∷ ws) (suc i) e h = zero_beyond (suc k) [] ws i (nowhere (in_range empty w) _ k e).1 (omega arith)
@@ -66,23 +65,23 @@ module _ (test : Constraint → Word → Bool) where
   abbrev Passing : List Constraint → List Word → ℕ → Type 0
   Passing rs ws i = test (record_at rs i) (word_at ws i) ≡ true
 
-  abbrev Found : (n : ℕ) → List Constraint → List Word → Broken → Type 0
-  Found n rs ws Nowhere = All rs ws (Passing rs ws)
-  Found n rs ws (At p) = (k : ℕ) × (p.0 ≡ n + k) × HasBoth rs ws k × ((i : ℕ) → i < k → Passing rs ws i) × (test (record_at rs k) (word_at ws k) ≡ false)
+  abbrev Found : (n : ℕ) → List Constraint → List Word → Option Place → Type 0
+  Found n rs ws None = All rs ws (Passing rs ws)
+  Found n rs ws (Some p) = (k : ℕ) × (p.0 ≡ n + k) × HasBoth rs ws k × ((i : ℕ) → i < k → Passing rs ws i) × (test (record_at rs k) (word_at ws k) ≡ false)
 
   found : (n : ℕ) (rs : List Constraint) (ws : List Word) → Found n rs ws (first_not test n rs ws)
   found n [] ws = λ i h. absurd (omega arith)
   found n (r ∷ rs) [] = λ i h. absurd (omega arith)
   found n (r ∷ rs) (w ∷ ws) = go (test r w) refl (first_not test (suc n) rs ws) (found (suc n) rs ws)
     where
-      go : (x : Bool) → test r w ≡ x → (b : Broken) → Found (suc n) rs ws b → Found n (r ∷ rs) (w ∷ ws) (cond x b (at n))
-      go true e Nowhere f = λ i h. by_index (λ j. HasBoth (r ∷ rs) (w ∷ ws) j → Passing (r ∷ rs) (w ∷ ws) j) (λ _. e) (λ j k. f j (omega arith, omega arith)) i h
-      go true e (At p) (k, q, both, before, here) =
+      go : (x : Bool) → test r w ≡ x → (b : Option Place) → Found (suc n) rs ws b → Found n (r ∷ rs) (w ∷ ws) (cond x b (at n))
+      go true e None f = λ i h. by_index (λ j. HasBoth (r ∷ rs) (w ∷ ws) j → Passing (r ∷ rs) (w ∷ ws) j) (λ _. e) (λ j k. f j (omega arith, omega arith)) i h
+      go true e (Some p) (k, q, both, before, here) =
           (suc k, omega arith, (omega arith, omega arith), (λ i h. by_index (λ j. j < suc k → Passing (r ∷ rs) (w ∷ ws) j) (λ _. e) (λ j l. before j (omega arith)) i h), here)
       go false e b f = (0, omega arith, (omega arith, omega arith), (λ i h. absurd (omega arith)), e)
 
   -- and back
-  none_found : (n : ℕ) (rs : List Constraint) (ws : List Word) → All rs ws (Passing rs ws) → first_not test n rs ws ≡ Nowhere
+  none_found : (n : ℕ) (rs : List Constraint) (ws : List Word) → All rs ws (Passing rs ws) → first_not test n rs ws ≡ None
   none_found n [] ws h = refl
   none_found n (r ∷ rs) [] h = refl
   none_found n (r ∷ rs) (w ∷ ws) h = rw (h 0 (omega arith, omega arith)) (none_found (suc n) rs ws (λ i k. h (suc i) (omega arith, omega arith)))
@@ -110,10 +109,10 @@ module _ (rs : List Constraint) (ws : List Word) (F : Ticks) where
   as_many : length moves ≡ length ws
   as_many = length_moved F rs ws
 
-  fails_first : (p : Place) → Found holding 1 rs ws (At p) → FirstNot rs ws (Holds rs ws F) p.0
+  fails_first : (p : Place) → Found holding 1 rs ws (Some p) → FirstNot rs ws (Holds rs ws F) p.0
   fails_first p (k, q, both, before, here) = record { index = k; at = q; there = both; before = before; here = λ h. true≢false (sym h ∙ here) }
 
-  past_first : (p : Place) → Found in_million 1 rs moves (At p) → FirstNot rs ws (Stays rs ws F) p.0
+  past_first : (p : Place) → Found in_million 1 rs moves (Some p) → FirstNot rs ws (Stays rs ws F) p.0
   past_first p (k, q, both, before, here) =
       let there : HasBoth rs ws k = (both.0, omega (arith, as_many)) in
       record {
@@ -124,7 +123,7 @@ module _ (rs : List Constraint) (ws : List Word) (F : Ticks) where
         here = λ h. true≢false (sym h ∙ sym (next_at k there.1) ∙ here);
       }
 
-  all_stay : Found in_million 1 rs moves Nowhere → All rs ws (Stays rs ws F)
+  all_stay : Found in_million 1 rs moves None → All rs ws (Stays rs ws F)
   all_stay g i h = sym (next_at i h.1) ∙ g i (h.0, omega (arith, as_many))
 
   first_fails : {p : ℕ} → FirstNot rs ws (Holds rs ws F) p → first_failing F 1 rs ws ≡ at p
@@ -137,7 +136,7 @@ module _ (rs : List Constraint) (ws : List Word) (F : Ticks) where
       (next_at x.index x.there.1 ∙ untrue _ x.here)
       ∙ ap at (sym x.at)
 
-  none_past : All rs ws (Stays rs ws F) → first_past 1 rs moves ≡ Nowhere
+  none_past : All rs ws (Stays rs ws F) → first_past 1 rs moves ≡ None
   none_past g = none_found in_million 1 rs moves (λ i h. let k : i < length ws = omega (arith, as_many) in next_at i k ∙ g i (h.0, k))
 
 -- ---- the checks, one by one
@@ -160,28 +159,28 @@ module _ (clocks : Clocks) (rs : List Constraint) (c : Configuration) (f : ℕ) 
   abbrev judges : StepTold
   judges = judged_told (judged F rs c)
 
-  judging : Passes clocks rs c.words f → (x y : Broken) → Found (holding rs c.words F) 1 rs c.words x → Found in_million 1 rs after y
-      → Answers (judged_told (handed_back Failed x c (handed_back PastMillion y c (record { outcome = Held; configuration = record { words = after } }))))
-  judging ok (At p) y e q = (record { passes = ok; fails = fails_first rs c.words F p e }, refl)
-  judging ok Nowhere (At p) e q = (by_million ok e (past_first rs c.words F p q), refl)
-  judging ok Nowhere Nowhere e q = (record { passes = ok; hold = e; stay = all_stay rs c.words F q }, refl)
+  judging : Passes clocks rs c.words f → (x y : Option Place) → Found (holding rs c.words F) 1 rs c.words x → Found in_million 1 rs after y
+      → Answers (judged_told (handed_back Failed x c (handed_back PastMillion y c (record { outcome = Ok tt; configuration = record { words = after } }))))
+  judging ok (Some p) y e q = (record { passes = ok; fails = fails_first rs c.words F p e }, refl)
+  judging ok None (Some p) e q = (by_million ok e (past_first rs c.words F p q), refl)
+  judging ok None None e q = (record { passes = ok; hold = e; stay = all_stay rs c.words F q }, refl)
 
-  module _ (p59 : broken_record clocks rs ≡ Nowhere) where
-    ticks : broken_word rs c.words ≡ Nowhere → (x : Bool) → ltb f (2 ^ clocks.named) ≡ x → Answers (refuses_at TickSet (cond x Nowhere (at 0)) c judges)
+  module _ (p59 : broken_record clocks rs ≡ None) where
+    ticks : broken_word rs c.words ≡ None → (x : Bool) → ltb f (2 ^ clocks.named) ≡ x → Answers (refuses_at TickSet (cond x None (at 0)) c judges)
     unfolding judged
     ticks p60 true u =
         judging (record { records = p59; words = p60; ticks = ltb-true f (2 ^ clocks.named) u }) (first_failing F 1 rs c.words) (first_past 1 rs after)
         (found (holding rs c.words F) 1 rs c.words) (found in_million 1 rs after)
     ticks p60 false u = (by_ticks p59 p60 (ltb-false f (2 ^ clocks.named) u), refl)
 
-    words : (x : Broken) → broken_word rs c.words ≡ x → Answers (refuses_at ConfigurationWord x c (refuses_at TickSet (beyond_clocks clocks f) c judges))
-    words (At p) e = (by_words p59 e, refl)
-    words Nowhere e = ticks e (ltb f (2 ^ clocks.named)) refl
+    words : (x : Option Place) → broken_word rs c.words ≡ x → Answers (refuses_at ConfigurationWord x c (refuses_at TickSet (beyond_clocks clocks f) c judges))
+    words (Some p) e = (by_words p59 e, refl)
+    words None e = ticks e (ltb f (2 ^ clocks.named)) refl
 
-  records : (x : Broken) → broken_record clocks rs ≡ x
+  records : (x : Option Place) → broken_record clocks rs ≡ x
       → Answers (refuses_at Records x c (refuses_at ConfigurationWord (broken_word rs c.words) c (refuses_at TickSet (beyond_clocks clocks f) c judges)))
-  records (At p) e = (by_records e, refl)
-  records Nowhere e = words e (broken_word rs c.words) refl
+  records (Some p) e = (by_records e, refl)
+  records None e = words e (broken_word rs c.words) refl
 
   answered : Answers (step_of clocks rs c f)
   unfolding step_of
@@ -237,15 +236,15 @@ every_step_answers clocks rs c f =
 -- ---- an answer in document 01's words is the answer of one value alone
 
 pub step_said_determines : StepSaidDetermines
-step_said_determines Accepted Accepted e = refl
-step_said_determines Accepted (Violated q) e = cc
-step_said_determines Accepted (Refused s) e = cc
-step_said_determines (Violated p) Accepted e = cc
-step_said_determines (Violated p) (Violated q) e = let h : p.0 ≡ q.0 = cc in ap (λ (i : ℕ). Violated (record { 0 = i })) h
-step_said_determines (Violated p) (Refused s) e = cc
-step_said_determines (Refused r) Accepted e = cc
-step_said_determines (Refused r) (Violated q) e = cc
-step_said_determines (Refused r) (Refused s) e =
+step_said_determines (Ok u) (Ok v) e = refl
+step_said_determines (Ok u) (Err (Violated q)) e = cc
+step_said_determines (Ok u) (Err (Refused s)) e = cc
+step_said_determines (Err (Violated p)) (Ok v) e = cc
+step_said_determines (Err (Violated p)) (Err (Violated q)) e = let h : p.0 ≡ q.0 = cc in ap (λ (i : ℕ). Err (Violated (record { 0 = i }))) h
+step_said_determines (Err (Violated p)) (Err (Refused s)) e = cc
+step_said_determines (Err (Refused r)) (Ok v) e = cc
+step_said_determines (Err (Refused r)) (Err (Violated q)) e = cc
+step_said_determines (Err (Refused r)) (Err (Refused s)) e =
     let n : number_of r.limit ≡ number_of s.limit = cc in
     let p : r.place.0 ≡ s.place.0 = cc in
-    ap Refused (refusals_differ r s n p)
+    ap (λ x. Err (Refused x)) (refusals_differ r s n p)

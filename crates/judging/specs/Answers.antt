@@ -1,6 +1,6 @@
 -- What a single step answers, and when: refused, violated, accepted, each exactly then (document 01, "Where each refusal is checked", its last
 -- three rows; document 02, M-101). The proofs stand in proofs/AnswerLaws. Assumes nothing.
-use Rattle.std.specs.Prelude.{◌≡◌, true, false, ◌↔◌, List, ℕ, ◌+◌, ◌^◌, ◌<◌, ◌≤◌, pos, length}
+use Rattle.std.specs.Prelude.{◌≡◌, true, false, ◌↔◌, List, ℕ, ◌+◌, ◌^◌, ◌<◌, ◌≤◌, pos, length, None, Some}
 use Rattle.limit.specs.Limit.{number_of}
 use Rattle.limit.specs.declared.Limit.TheVariants.{Records, ConfigurationWord, TickSet, Million}
 use Rattle.limit.specs.declared.Place.{Place}
@@ -10,7 +10,6 @@ use Rattle.constraint.specs.Meaning.{word, holds, next_word}
 use Rattle.constraint.specs.Million.{in_million}
 use Rattle.constraint.specs.SamePlace.{record_at, word_at}
 use Rattle.constraint.specs.Ticks.{Ticks}
-use Rattle.constraint.specs.declared.Broken.TheVariants.{Nowhere, At}
 use Rattle.constraint.specs.declared.Clocks.{Clocks}
 use Rattle.constraint.specs.declared.Configuration.{Configuration}
 use Rattle.constraint.specs.declared.Constraint.{Constraint}
@@ -45,15 +44,15 @@ pub record FirstNot (rs : List Constraint) (ws : List Word) (P : ℕ → Type 0)
 
 -- 59, 60 and 61 let the step pass
 pub record Passes (clocks : Clocks) (rs : List Constraint) (ws : List Word) (f : ℕ) : Type 0 where
-  pub records : broken_record clocks rs ≡ Nowhere
-  pub words : broken_word rs ws ≡ Nowhere
+  pub records : broken_record clocks rs ≡ None
+  pub words : broken_word rs ws ≡ None
   pub ticks : f < 2 ^ clocks.named
 
 -- refused: 59; 60; 61; and 51, after every constraint held; each where those before it are kept
 pub data StepRefuses (clocks : Clocks) (rs : List Constraint) (ws : List Word) (f : ℕ) : (number place : ℕ) → Type 0 where
-  by_records : {p : Place} → broken_record clocks rs ≡ At p → StepRefuses clocks rs ws f (number_of Records) p.0
-  by_words : {p : Place} → broken_record clocks rs ≡ Nowhere → broken_word rs ws ≡ At p → StepRefuses clocks rs ws f (number_of ConfigurationWord) p.0
-  by_ticks : broken_record clocks rs ≡ Nowhere → broken_word rs ws ≡ Nowhere → 2 ^ clocks.named ≤ f → StepRefuses clocks rs ws f (number_of TickSet) 0
+  by_records : {p : Place} → broken_record clocks rs ≡ Some p → StepRefuses clocks rs ws f (number_of Records) p.0
+  by_words : {p : Place} → broken_record clocks rs ≡ None → broken_word rs ws ≡ Some p → StepRefuses clocks rs ws f (number_of ConfigurationWord) p.0
+  by_ticks : broken_record clocks rs ≡ None → broken_word rs ws ≡ None → 2 ^ clocks.named ≤ f → StepRefuses clocks rs ws f (number_of TickSet) 0
   by_million : {p : ℕ} → Passes clocks rs ws f → All rs ws (Holds rs ws (all_ticks clocks rs ws f)) → FirstNot rs ws (Stays rs ws (all_ticks clocks rs ws f)) p
       → StepRefuses clocks rs ws f (number_of Million) p
 

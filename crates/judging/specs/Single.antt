@@ -1,15 +1,14 @@
 -- The single step on any list of records, clock counts, configuration and tick set: document 01, "Where each refusal is checked", its last
 -- three rows; document 02, M-101. Assumes nothing.
-use Rattle.std.specs.Prelude.{◌≡◌, refl, cond, List, [], ◌∷◌, map, ℕ, ◌^◌, ltb, ℤ, pos}
+use Rattle.std.specs.Prelude.{◌≡◌, refl, cond, List, [], ◌∷◌, map, ℕ, ◌^◌, ltb, ℤ, pos, Option, None, Some, Result, Ok, Err}
 use Rattle.limit.specs.Limit.{number_of}
 use Rattle.limit.specs.declared.Limit.{Limit}
 use Rattle.limit.specs.declared.Limit.TheVariants.{Records, ConfigurationWord, TickSet, Million}
+use Rattle.limit.specs.declared.Place.{Place}
 use Rattle.constraint.specs.Implicit.{completed, nested_clocks, nested_records}
 use Rattle.constraint.specs.Lists.{at, counting, broken_record, broken_word}
 use Rattle.constraint.specs.Meaning.{word}
 use Rattle.constraint.specs.Ticks.{Ticks, bits}
-use Rattle.constraint.specs.declared.Broken.{Broken}
-use Rattle.constraint.specs.declared.Broken.TheVariants.{Nowhere, At}
 use Rattle.constraint.specs.declared.Clocks.{Clocks}
 use Rattle.constraint.specs.declared.Configuration.{Configuration}
 use Rattle.constraint.specs.declared.Constraint.{Constraint}
@@ -17,13 +16,11 @@ use Rattle.constraint.specs.declared.Definition.TheVariants.{Await}
 use Rattle.constraint.specs.declared.Kind.TheVariants.{Relates, Defines}
 use Rattle.constraint.specs.declared.Relation.TheVariants.{StrictlyPrecedes, Precedes}
 use Rattle.constraint.specs.declared.Word.{Word}
-use Rattle.judging.specs.Step.{judged}
-use Rattle.judging.specs.declared.Judged.{Judged}
-use Rattle.judging.specs.declared.Outcome.{Outcome}
-use Rattle.judging.specs.declared.Outcome.TheVariants.{Held, Failed, PastMillion}
-use Rattle.judging.specs.declared.StepAnswer.{StepAnswer}
-use Rattle.judging.specs.declared.StepAnswer.TheVariants.{Accepted, Violated, Refused}
-use Rattle.judging.specs.declared.Stepped.{Stepped}
+use Rattle.judging.specs.Step.{Judged, judged}
+use Rattle.judging.specs.declared.NotHeld.{NotHeld}
+use Rattle.judging.specs.declared.NotHeld.TheVariants.{Failed, PastMillion}
+use Rattle.judging.specs.declared.Stopped.{Stopped}
+use Rattle.judging.specs.declared.Stopped.TheVariants.{Violated, Refused}
 
 -- ---- the answer in document 01's words: `violated` with its record, `refused` with number and place
 
@@ -32,41 +29,46 @@ pub data StepSaid : Type 0 where
   violated : (record' : ℕ) → StepSaid
   refused : (number place : ℕ) → StepSaid
 
-abbrev pub step_said : StepAnswer → StepSaid
-step_said Accepted = accepted
-step_said (Violated p) = violated p.0
-step_said (Refused r) = refused (number_of r.limit) r.place.0
+abbrev pub stopped_said : Stopped → StepSaid
+stopped_said (Violated p) = violated p.0
+stopped_said (Refused r) = refused (number_of r.limit) r.place.0
+
+abbrev pub step_said : Result (Unit {0}) Stopped → StepSaid
+step_said (Ok u) = accepted
+step_said (Err s) = stopped_said s
 
 -- the claim: no two values of the answer in code have one meaning
 abbrev pub StepSaidDetermines : Type 0
-StepSaidDetermines = (x y : StepAnswer) → step_said x ≡ step_said y → x ≡ y
+StepSaidDetermines = (x y : Result (Unit {0}) Stopped) → step_said x ≡ step_said y → x ≡ y
 
 pub record StepTold : Type 0 where
   pub said : StepSaid
   pub configuration : Configuration
 
-abbrev pub step_told : Stepped → StepTold
-step_told s = record { said = step_said s.answer; configuration = s.configuration }
+-- a step that is not taken hands back the configuration that it was given
+abbrev pub step_told : (before : Configuration) → Result Configuration Stopped → StepTold
+step_told before (Ok after) = record { said = accepted; configuration = after }
+step_told before (Err s) = record { said = stopped_said s; configuration = before }
 
 -- ---- the checks in their order
 
 -- a refused step hands back the configuration that it was given
-abbrev pub refuses_at : Limit → Broken → Configuration → StepTold → StepTold
-refuses_at l Nowhere c t = t
-refuses_at l (At p) c t = record { said = refused (number_of l) p.0; configuration = c }
+abbrev pub refuses_at : Limit → Option Place → Configuration → StepTold → StepTold
+refuses_at l None c t = t
+refuses_at l (Some p) c t = record { said = refused (number_of l) p.0; configuration = c }
 
 -- 61: tick set with a bit at or above the named count, place 0
-abbrev pub beyond_clocks : Clocks → (ticks : ℕ) → Broken
-beyond_clocks clocks f = cond (ltb f (2 ^ clocks.named)) Nowhere (at 0)
+abbrev pub beyond_clocks : Clocks → (ticks : ℕ) → Option Place
+beyond_clocks clocks f = cond (ltb f (2 ^ clocks.named)) None (at 0)
 
 -- the ticks of a step, with those of implicit clocks: worked out with the words from before it
 abbrev pub all_ticks : Clocks → List Constraint → List Word → (ticks : ℕ) → Ticks
 all_ticks clocks rs ws f = bits (completed clocks.named rs ws f)
 
-abbrev pub outcome_said : Outcome → StepSaid
-outcome_said Held = accepted
-outcome_said (Failed p) = violated p.0
-outcome_said (PastMillion p) = refused (number_of Million) p.0
+abbrev pub outcome_said : Result (Unit {0}) NotHeld → StepSaid
+outcome_said (Ok u) = accepted
+outcome_said (Err (Failed p)) = violated p.0
+outcome_said (Err (PastMillion p)) = refused (number_of Million) p.0
 
 abbrev pub judged_told : Judged → StepTold
 judged_told j = record { said = outcome_said j.outcome; configuration = j.configuration }
@@ -83,8 +85,8 @@ step_of clocks rs c f =
 
 abbrev pub example_records : List Constraint
 example_records =
-    record { kind = Relates StrictlyPrecedes; defined = 0; first = 0; second = 1; parameter = record { 0 = 0 }; line = record { 0 = 1 } } ∷
-    record { kind = Defines Await; defined = 2; first = 1; second = 0; parameter = record { 0 = 2 }; line = record { 0 = 2 } } ∷
+    record { kind = Relates StrictlyPrecedes; defined = 0; first = 0; second = 1; line = record { 0 = 1 } } ∷
+    record { kind = Defines (Await 2); defined = 2; first = 1; second = 0; line = record { 0 = 2 } } ∷
     []
 
 abbrev from : List ℤ → Configuration
@@ -137,8 +139,8 @@ nested_refused = refl
 -- {a} with `(await 1 a) precedes b`: the await ends in this step, by its word from before it
 awaited :
     step_of (record { named = 2; count = 3 }) (
-    record { kind = Defines Await; defined = 2; first = 0; second = 0; parameter = record { 0 = 1 }; line = record { 0 = 1 } } ∷
-    record { kind = Relates Precedes; defined = 0; first = 2; second = 1; parameter = record { 0 = 0 }; line = record { 0 = 1 } } ∷
+    record { kind = Defines (Await 1); defined = 2; first = 0; second = 0; line = record { 0 = 1 } } ∷
+    record { kind = Relates Precedes; defined = 0; first = 2; second = 1; line = record { 0 = 1 } } ∷
     []) (from (pos 1 ∷ pos 0 ∷ [])) 1
     ≡ record { said = accepted; configuration = from (pos 0 ∷ pos 1 ∷ []) }
 unfolding step_of judged

@@ -1,110 +1,76 @@
 // One step of all records, on values.
-ghost use Rattle.std.specs.Prelude.{◌≡◌, ◌≤◌};
+ghost use Rattle.std.specs.Prelude.{◌≡◌, ◌≤◌, None, length};
 ghost use Rattle.constraint.specs.Implicit.{completed};
-ghost use Rattle.constraint.specs.Lists.{slots, at, broken_word};
+ghost use Rattle.constraint.specs.Lists.{broken_word};
 ghost use Rattle.constraint.specs.Ticks.{bits};
-ghost use Rattle.constraint.specs.declared.Broken.TheVariants.{Nowhere};
 ghost use Rattle.judging.specs.Code as k;
 ghost use Rattle.judging.specs.Single.{all_ticks};
 ghost use Rattle.judging.specs.Step as s;
 
-use super::{Judged, Outcome};
-use constraint::{Broken, Clocks, Configuration, Constraint, Seen};
+use super::NotHeld;
+use constraint::{Clocks, Configuration, Constraint, Seen, TickSet, with_implied};
 use limit::Place;
-
-// The place that is known, else this one.
-fn first_of(known: Broken, place: usize) -> Broken
-    ensures { result ≡ k.first_of known (at place) }
-{
-    if let Broken::At(earlier) = known {
-        return Broken::At(earlier);
-    }
-    Broken::At(Place(place))
-}
-
-// A step as judged, with this configuration.
-fn handed_back(outcome: Outcome, configuration: Configuration) -> Judged
-    ensures { result ≡ record { outcome = outcome; configuration = configuration } }
-{
-    Judged {
-        outcome,
-        configuration,
-    }
-}
 
 // The tick set with the implicit clocks that tick with it: record by record, each with its word from before the step.
 fn complete(
     named: u8,
-    records: [Constraint; 64],
-    count: usize,
-    configuration: Configuration,
-    ticks: u32,
-) -> u32
-    requires { count ≤ 64 }
-    ensures { result ≡ completed named (slots count records) configuration.words ticks }
+    records: &[Constraint],
+    configuration: &Configuration,
+    ticks: TickSet,
+) -> TickSet
+    ensures { result ≡ completed named records.now configuration.now.words ticks }
 {
     let mut all = ticks;
-    let mut i: usize = 0;
-    while i < count {
-        let constraint = records[i];
-        let w = configuration.words[i];
-        all = constraint::with_implied(named, constraint, w, all);
-        i += 1;
+    for (constraint, word) in records.iter().zip(&configuration.words) {
+        all = with_implied(named, constraint, *word, all);
     }
     all
 }
 
-// Record by record: the first that fails ends it; the first whose word leaves its million is remembered.
+// Record by record: the first that fails ends it; the first whose word leaves its million is remembered. A step that is not taken moves no word.
 fn judge_each(
-    records: [Constraint; 64],
-    count: usize,
+    records: &[Constraint],
     configuration: Configuration,
-    ticks: u32,
-) -> Judged
-    requires { (count ≤ 64) × (broken_word (slots count records) configuration.words ≡ Nowhere) }
-    ensures { result ≡ s.judged (bits ticks) (slots count records) configuration }
+    ticks: TickSet,
+) -> Result<Configuration, NotHeld>
+    requires { length records.now ≤ 64 }
+    ensures { k.words_of result ≡ k.walked (bits ticks) 1 None records.now configuration.words }
 {
     let mut words = configuration.words;
-    let mut past = Broken::Nowhere;
-    let mut i: usize = 0;
-    while i < count {
-        let constraint = records[i];
-        let w = words[i];
-        let seen = constraint::look(constraint, w, ticks);
-        if let Seen::Moves(v) = seen {
-            words[i] = v;
-            i += 1;
-            continue;
+    let mut past = None;
+    for (i, constraint) in records.iter().enumerate() {
+        match constraint.look(words[i], ticks) {
+            Seen::Moves(word) => words[i] = word,
+            Seen::Leaves(word) => {
+                words[i] = word;
+                past = past.or(Some(Place(i + 1)));
+            }
+            Seen::Out | Seen::Fails => return Err(NotHeld::Failed(Place(i + 1))),
         }
-        if let Seen::Leaves(v) = seen {
-            words[i] = v;
-            i += 1;
-            past = first_of(past, i);
-            continue;
-        }
-        return handed_back(Outcome::Failed(Place(i + 1)), configuration);
     }
-    if let Broken::At(place) = past {
-        return handed_back(Outcome::PastMillion(place), configuration);
+    match past {
+        Some(place) => Err(NotHeld::PastMillion(place)),
+        None => Ok(Configuration { words }),
     }
-    handed_back(Outcome::Held, Configuration { words })
 }
 
-// The step with a tick set of named clocks, from records and a configuration that limits 59 and 60 let pass. Where all clocks are named, there are
-// no ticks to work out.
+// The step with a tick set of named clocks, from records and a configuration that limits 59 and 60 let pass (its clause says so of what is lent, which
+// no type of this crate's own can hold): each word is moved where it stands, or,
+// where the step is not taken, none is. Where all clocks are named, there are no ticks to work out.
 pub fn judge(
-    records: [Constraint; 64],
-    count: usize,
+    records: &[Constraint],
     clocks: Clocks,
-    configuration: Configuration,
-    ticks: u32,
-) -> Judged
-    requires { k.Ready clocks records count configuration.words }
-    ensures { result ≡ s.judged (all_ticks clocks (slots count records) configuration.words ticks) (slots count records) configuration }
+    configuration: &mut Configuration,
+    ticks: TickSet,
+) -> Result<(), NotHeld>
+    requires { k.Ready clocks records.now configuration.old.words }
+    ensures { s.judged_as result configuration.new ≡ s.judged (all_ticks clocks records.now configuration.old.words ticks) records.now configuration.old }
 {
-    let mut all = ticks;
-    if clocks.named != clocks.count {
-        all = complete(clocks.named, records, count, configuration, ticks);
-    }
-    judge_each(records, count, configuration, all)
+    let all = if clocks.named == clocks.count {
+        ticks
+    } else {
+        complete(clocks.named, records, configuration, ticks)
+    };
+    *configuration = judge_each(records, *configuration, all)?;
+    Ok(())
 }

@@ -9,14 +9,13 @@ use borrow.Author.Tests.{leb-true, leb-false}
 use lib.Dec.{leb}
 use lib.ListN.{length, take}
 use lib.Seq.{take_all}
+use Rattle.std.specs.Prelude.{Option, None, Some}
 use Rattle.limit.specs.declared.Limit.TheVariants.{Records, ConfigurationWord, TickSet}
 use Rattle.limit.specs.declared.Place.{Place}
 use Rattle.constraint.specs.Lists.{at, record_fits, first_unfit, counts_fit, broken_record, broken_word}
 use Rattle.constraint.specs.Meaning.{defined_of}
 use Rattle.constraint.specs.SamePlace.{same_place_of, refuse_at, same, different, same_words}
 use Rattle.constraint.specs.Ticks.{Ticks, none, adding_all}
-use Rattle.constraint.specs.declared.Broken.{Broken}
-use Rattle.constraint.specs.declared.Broken.TheVariants.{Nowhere, At}
 use Rattle.constraint.specs.declared.Clocks.{Clocks}
 use Rattle.constraint.specs.declared.Configuration.{Configuration}
 use Rattle.constraint.specs.declared.Constraint.{Constraint}
@@ -38,22 +37,22 @@ first_unfit_take clocks earlier i (suc k) (r ∷ rs) low high =
     go true e onward = onward (omega (arith, leb-true i 64 (and_l (leb i 64) _ e)))
     go false e onward = refl
 
-many_unfit : (clocks : Clocks) (earlier : Ticks) (i : ℕ) (rs : List Constraint) → 65 < i + length rs → i ≤ 65 → first_unfit clocks earlier i rs ≡ Nowhere → ⊥
+many_unfit : (clocks : Clocks) (earlier : Ticks) (i : ℕ) (rs : List Constraint) → 65 < i + length rs → i ≤ 65 → first_unfit clocks earlier i rs ≡ None → ⊥
 many_unfit clocks earlier i [] many low e = omega (arith, many, low)
 many_unfit clocks earlier i (r ∷ rs) many low e =
     many_unfit clocks (adding_all (defined_of r) earlier) (suc i) rs (omega (arith, many)) (omega (arith, place_passes clocks earlier i r rs e)) (nowhere (record_fits clocks earlier i r) _ i e).1
 
 broken_take : (clocks : Clocks) (rs : List Constraint) → broken_record clocks (take 66 rs) ≡ broken_record clocks rs
-broken_take clocks rs = ap (λ (x : Broken). cond (counts_fit clocks) x (at 0)) (first_unfit_take clocks none 1 66 rs (omega arith) (omega arith))
+broken_take clocks rs = ap (λ (x : Option Place). cond (counts_fit clocks) x (at 0)) (first_unfit_take clocks none 1 66 rs (omega arith) (omega arith))
 
-many_broken : (clocks : Clocks) (rs : List Constraint) → 64 < length rs → broken_record clocks rs ≡ Nowhere → ⊥
+many_broken : (clocks : Clocks) (rs : List Constraint) → 64 < length rs → broken_record clocks rs ≡ None → ⊥
 many_broken clocks rs many e = many_unfit clocks none 1 rs (omega (arith, many)) (omega arith) (clocks_pass clocks rs e).1
 
 -- where there are more than 64 records, 59 stops what is asked behind it: so the first 66 are asked as all are
-module _ {T : Type 0} (clocks : Clocks) (asked : List Constraint → Broken → T) (stops : (p : Place) (rs qs : List Constraint) → asked rs (At p) ≡ asked qs (At p)) where
-  pub by_broken : (qs rs : List Constraint) (b : Broken) → broken_record clocks rs ≡ b → 64 < length rs → asked qs b ≡ asked rs b
-  by_broken qs rs Nowhere e many = absurd (many_broken clocks rs many e)
-  by_broken qs rs (At p) e many = stops p qs rs
+module _ {T : Type 0} (clocks : Clocks) (asked : List Constraint → Option Place → T) (stops : (p : Place) (rs qs : List Constraint) → asked rs (Some p) ≡ asked qs (Some p)) where
+  pub by_broken : (qs rs : List Constraint) (b : Option Place) → broken_record clocks rs ≡ b → 64 < length rs → asked qs b ≡ asked rs b
+  by_broken qs rs None e many = absurd (many_broken clocks rs many e)
+  by_broken qs rs (Some p) e many = stops p qs rs
 
   pub asked_take : (rs : List Constraint) → asked (take 66 rs) (broken_record clocks (take 66 rs)) ≡ asked rs (broken_record clocks rs)
   asked_take rs = go (leb (length rs) 66) refl

@@ -1,17 +1,6 @@
-pub mod AnswerLaws
-pub mod ArrayPart
 pub mod CompareLaws
-pub mod Elem
 pub mod First66
-pub mod LentArray
-pub mod LentCalls
 pub mod LentLaws
-pub mod LentMonitor
-pub mod LentTypes
-pub mod LentWords
 pub mod PlaceLaws
-pub mod Prefix
 pub mod StartLaws
 pub mod SurveyLaws
-pub mod VisitLaws
-pub mod While

@@ -10,8 +10,10 @@ use native.Mathlib.Omega.{arith}
 use lib.Dec.{ltb}
 use lib.ListN.{length, take, drop, length-set, length-take, take-append-drop}
 use lib.Seq.{drop-cons, drop-set-lt, take-suc-set, take_all, append_snoc}
+use Rattle.std.specs.Prelude.{Option, None, Some, Ok}
 use Rattle.limit.specs.declared.Limit.{Limit}
 use Rattle.limit.specs.declared.Limit.TheVariants.{Records, ConfigurationWord, TickSet}
+use Rattle.limit.specs.declared.Place.{Place}
 use Rattle.constraint.specs.Implicit.{completed}
 use Rattle.constraint.specs.Lists.{at, counts_fit, first_unfit, broken_record, first_out, broken_word}
 use Rattle.constraint.specs.Look.{seen, looked}
@@ -19,8 +21,6 @@ use Rattle.constraint.specs.Meaning.{in_range, holds, next_word, defined_of, clo
 use Rattle.constraint.specs.Million.{in_million, first_past}
 use Rattle.constraint.specs.SamePlace.{word_at}
 use Rattle.constraint.specs.Ticks.{Ticks, none, adding_all, bits}
-use Rattle.constraint.specs.declared.Broken.{Broken}
-use Rattle.constraint.specs.declared.Broken.TheVariants.{Nowhere, At}
 use Rattle.constraint.specs.declared.Clocks.{Clocks}
 use Rattle.constraint.specs.declared.Configuration.{Configuration}
 use Rattle.constraint.specs.declared.Constraint.{Constraint}
@@ -29,29 +29,29 @@ use Rattle.constraint.proofs.Demand3.{nowhere, clocks_pass, later_pass}
 use Rattle.constraint.proofs.ImplicitLaws.{reached_same}
 use Rattle.constraint.proofs.Named.{holds_looks, next_looks}
 use Rattle.constraint.proofs.TickSets.{bits_zero}
-use Rattle.judging.specs.Code.{first_of}
+use Rattle.std.specs.Option.{option_or}
 use Rattle.judging.specs.Single.{StepTold, refuses_at, beyond_clocks, all_ticks, judged_told, step_of}
 use Rattle.judging.specs.Step.{first_failing, moved, handed_back, judged}
-use Rattle.judging.specs.declared.Outcome.TheVariants.{Held, Failed, PastMillion}
-use Rattle.lent.specs.Places.{placed, unfit_at, out_at}
+use Rattle.judging.specs.declared.NotHeld.TheVariants.{Failed, PastMillion}
+use Rattle.lent.specs.Places.{unfit_at, out_at}
 use Rattle.lent.specs.Survey.{inside, held, stayed, after, begins, ticks_here, visited, Walked, turned, surveyed, judged_at, concluded}
 use Rattle.lent.specs.declared.Survey.{Survey}
-use Rattle.lent.proofs.PlaceLaws.{lowest_placed, unfit_on, unfit_is, few_pass}
+use Rattle.lent.proofs.PlaceLaws.{lowest_placed, none_more, unfit_on, unfit_is, few_pass}
 
 -- ---- what no record changes
 
-kept : {A : Type 0} (g : Survey → A) → ((s : Survey) (i : ℕ) (r : Constraint) (w : Word) → g (visited s i r w) ≡ g s) → (rs : List Constraint) (i : ℕ) (k : Walked) → g (surveyed i k rs).known ≡ g k.known
+kept : {A : Type 0} (g : Survey → A) → ((s : Survey) (p : Place) (r : Constraint) (w : Word) → g (visited s p r w).known ≡ g s) → (rs : List Constraint) (i : ℕ) (k : Walked) → g (surveyed i k rs).known ≡ g k.known
 unfolding surveyed
 kept g e [] i k = refl
-kept g e (r ∷ rs) i k = kept g e rs (suc i) (turned i k r) ∙ e k.known i r (word_at k.words i)
+kept g e (r ∷ rs) i k = kept g e rs (suc i) (turned i k r) ∙ e k.known (record { 0 = suc i }) r (word_at k.words i)
 
 clocks_kept : (rs : List Constraint) (i : ℕ) (k : Walked) → (surveyed i k rs).known.clocks ≡ k.known.clocks
 unfolding visited
-clocks_kept = kept (λ s. s.clocks) (λ s i r w. refl)
+clocks_kept = kept (λ s. s.clocks) (λ s p r w. refl)
 
 given_kept : (rs : List Constraint) (i : ℕ) (k : Walked) → (surveyed i k rs).known.given ≡ k.known.given
 unfolding visited
-given_kept = kept (λ s. s.given) (λ s i r w. refl)
+given_kept = kept (λ s. s.given) (λ s p r w. refl)
 
 -- ---- what is told of a record whose word is in range or not
 
@@ -81,9 +81,6 @@ record Room (k : Walked) (i : ℕ) (rs : List Constraint) : Type 0 where
   words : length k.words ≡ 64
 
 module _ (k : Walked) (i : ℕ) (r : Constraint) (rs : List Constraint) (h : Room k i (r ∷ rs)) where
-  here : i < 64
-  here = omega (arith, h.room)
-
   room_next : Room (turned i k r) (suc i) rs
   room_next = record { room = omega (arith, h.room); words = length-set k.words i _ ∙ h.words }
 
@@ -96,8 +93,8 @@ module _ (k : Walked) (i : ℕ) (r : Constraint) (rs : List Constraint) (h : Roo
 
 -- ---- 59
 
-unfit_found : (rs : List Constraint) (i : ℕ) (k : Walked) → counts_fit k.known.clocks ≡ true → i + length rs ≤ 64 → (b : Broken)
-    → placed (surveyed i k rs).known.unfit b ≡ placed k.known.unfit (first_of (first_unfit k.known.clocks (bits k.known.earlier) (suc i) rs) b)
+unfit_found : (rs : List Constraint) (i : ℕ) (k : Walked) → counts_fit k.known.clocks ≡ true → i + length rs ≤ 64 → (b : Option Place)
+    → option_or (surveyed i k rs).known.unfit b ≡ option_or k.known.unfit (option_or (first_unfit k.known.clocks (bits k.known.earlier) (suc i) rs) b)
 unfolding surveyed visited
 unfit_found [] i k ok room b = refl
 unfit_found (r ∷ rs) i k ok room b =
@@ -106,15 +103,15 @@ unfit_found (r ∷ rs) i k ok room b =
 
 -- ---- 60
 
-out_found : (rs : List Constraint) (i n : ℕ) (k : Walked) → Room k i rs → i + length rs ≡ n → out_at (surveyed i k rs).known.out n k.words ≡ placed k.known.out (first_out (suc i) rs (drop i k.words))
+out_found : (rs : List Constraint) (i n : ℕ) (k : Walked) → Room k i rs → i + length rs ≡ n → out_at (surveyed i k rs).known.out n k.words ≡ option_or k.known.out (first_out (suc i) rs (drop i k.words))
 unfolding surveyed visited
 out_found [] i n k h e = let p : n ≡ i = omega arith in rw (p, add-one i)
 out_found (r ∷ rs) i n k h e =
     let w = word_at k.words i in
     let f = bits (ticks_here k.known r w) in
-    ap (λ (ws : List Word). placed (surveyed (suc i) (turned i k r) rs).known.out (first_out (n + 1) [] ws)) (sym (words_stay k i r rs h n (omega (arith, e))))
+    ap (λ (ws : List Word). option_or (surveyed (suc i) (turned i k r) rs).known.out (first_out (n + 1) [] ws)) (sym (words_stay k i r rs h n (omega (arith, e))))
     ∙ out_found rs (suc i) n (turned i k r) (room_next k i r rs h) (omega (arith, e))
-    ∙ rw (words_stay k i r rs h (suc i) (omega arith), word_here k i r rs h, inside_is (in_range r w) (holds r w f) (in_million r (next_word r w f)) (next_word r w f)) (lowest_placed k.known.out (in_range r w) i _ (here k i r rs h))
+    ∙ rw (words_stay k i r rs h (suc i) (omega arith), word_here k i r rs h, inside_is (in_range r w) (holds r w f) (in_million r (next_word r w f)) (next_word r w f)) (lowest_placed k.known.out (in_range r w) (record { 0 = suc i }) _)
 
 -- ---- judging
 
@@ -128,8 +125,8 @@ record Judging (G : Ticks) (k : Walked) (i : ℕ) (rs : List Constraint) : Type 
   there : Room k i rs
   few : k.known.clocks.count ≤ 32
   earlier : Ticks
-  pass : first_unfit k.known.clocks earlier (suc i) rs ≡ Nowhere
-  fine : first_out (suc i) rs (drop i k.words) ≡ Nowhere
+  pass : first_unfit k.known.clocks earlier (suc i) rs ≡ None
+  fine : first_out (suc i) rs (drop i k.words) ≡ None
   ticks : G ≡ whole k i rs
 
 module _ (G : Ticks) (k : Walked) (i : ℕ) (r : Constraint) (rs : List Constraint) (h : Judging G k i (r ∷ rs)) where
@@ -145,7 +142,7 @@ module _ (G : Ticks) (k : Walked) (i : ℕ) (r : Constraint) (rs : List Constrai
   abbrev stay : drop (suc i) (turned i k r).words ≡ drop (suc i) k.words
   stay = words_stay k i r rs h.there (suc i) (omega arith)
 
-  word_fine : (in_range r w ≡ true) × (first_out (suc (suc i)) rs (drop (suc i) k.words) ≡ Nowhere)
+  word_fine : (in_range r w ≡ true) × (first_out (suc (suc i)) rs (drop (suc i) k.words) ≡ None)
   word_fine = nowhere _ _ (suc i) (rw here_is at h.fine)
 
   judging_next : Judging G (turned i k r) (suc i) rs
@@ -167,33 +164,33 @@ module _ (G : Ticks) (k : Walked) (i : ℕ) (r : Constraint) (rs : List Constrai
   looked_is = rw (word_fine.0, holds_looks r w _ _ sees, next_looks r w _ _ sees)
 
 failing_found : (G : Ticks) (rs : List Constraint) (i : ℕ) (k : Walked) → Judging G k i rs
-    → placed (surveyed i k rs).known.failing Nowhere ≡ placed k.known.failing (first_failing G (suc i) rs (drop i k.words))
+    → (surveyed i k rs).known.failing ≡ option_or k.known.failing (first_failing G (suc i) rs (drop i k.words))
 unfolding surveyed visited
-failing_found G [] i k h = refl
+failing_found G [] i k h = sym (none_more k.known.failing)
 failing_found G (r ∷ rs) i k h =
     let w = word_at k.words i in
     failing_found G rs (suc i) (turned i k r) (judging_next G k i r rs h)
-    ∙ rw (stay G k i r rs h, here_is G k i r rs h, looked_is G k i r rs h, held_is (holds r w G) (in_million r (next_word r w G)) (next_word r w G)) (lowest_placed k.known.failing (holds r w G) i _ (here k i r rs h.there))
+    ∙ rw (stay G k i r rs h, here_is G k i r rs h, looked_is G k i r rs h, held_is (holds r w G) (in_million r (next_word r w G)) (next_word r w G)) (lowest_placed k.known.failing (holds r w G) (record { 0 = suc i }) _)
 
 -- where every record held, too
 abbrev Held-all : Ticks → Walked → ℕ → List Constraint → Type 0
-Held-all G k i rs = first_failing G (suc i) rs (drop i k.words) ≡ Nowhere
+Held-all G k i rs = first_failing G (suc i) rs (drop i k.words) ≡ None
 
 module _ (G : Ticks) (k : Walked) (i : ℕ) (r : Constraint) (rs : List Constraint) (h : Judging G k i (r ∷ rs)) (g : Held-all G k i (r ∷ rs)) where
-  record_held : (holds r (word_at k.words i) G ≡ true) × (first_failing G (suc (suc i)) rs (drop (suc i) k.words) ≡ Nowhere)
+  record_held : (holds r (word_at k.words i) G ≡ true) × (first_failing G (suc (suc i)) rs (drop (suc i) k.words) ≡ None)
   record_held = nowhere _ _ (suc i) (rw (here_is G k i r rs h) at g)
 
   rest_held : Held-all G (turned i k r) (suc i) rs
   rest_held = rw (stay G k i r rs h) record_held.1
 
 past_found : (G : Ticks) (rs : List Constraint) (i : ℕ) (k : Walked) → Judging G k i rs → Held-all G k i rs
-    → placed (surveyed i k rs).known.past Nowhere ≡ placed k.known.past (first_past (suc i) rs (moved G rs (drop i k.words)))
+    → (surveyed i k rs).known.past ≡ option_or k.known.past (first_past (suc i) rs (moved G rs (drop i k.words)))
 unfolding surveyed visited
-past_found G [] i k h g = refl
+past_found G [] i k h g = sym (none_more k.known.past)
 past_found G (r ∷ rs) i k h g =
     let v = next_word r (word_at k.words i) G in
     past_found G rs (suc i) (turned i k r) (judging_next G k i r rs h) (rest_held G k i r rs h g)
-    ∙ rw (stay G k i r rs h, here_is G k i r rs h, looked_is G k i r rs h, (record_held G k i r rs h g).0, stayed_is (in_million r v) v) (lowest_placed k.known.past (in_million r v) i _ (here k i r rs h.there))
+    ∙ rw (stay G k i r rs h, here_is G k i r rs h, looked_is G k i r rs h, (record_held G k i r rs h g).0, stayed_is (in_million r v) v) (lowest_placed k.known.past (in_million r v) (record { 0 = suc i }) _)
 
 after_found : (G : Ticks) (rs : List Constraint) (i : ℕ) (k : Walked) → Judging G k i rs → Held-all G k i rs → (surveyed i k rs).words ≡ take i k.words ++ moved G rs (drop i k.words)
 unfolding surveyed visited
@@ -208,9 +205,9 @@ after_found G (r ∷ rs) i k h g =
 -- ---- the answer
 
 -- a limit is broken at the same place, or else what follows is the same
-refuses : (l : Limit) (c : Configuration) {a b : Broken} {t u : StepTold} → a ≡ b → (b ≡ Nowhere → t ≡ u) → refuses_at l a c t ≡ refuses_at l b c u
-refuses l c {b = Nowhere} p n = rw p (n refl)
-refuses l c {b = At x} p n = rw p
+refuses : (l : Limit) (c : Configuration) {a b : Option Place} {t u : StepTold} → a ≡ b → (b ≡ None → t ≡ u) → refuses_at l a c t ≡ refuses_at l b c u
+refuses l c {b = None} p n = rw p (n refl)
+refuses l c {b = Some x} p n = rw p
 
 module _ (clocks : Clocks) (rs : List Constraint) (c : Configuration) (f : ℕ) (h : length c.words ≡ 64) where
   abbrev from : Walked
@@ -222,11 +219,11 @@ module _ (clocks : Clocks) (rs : List Constraint) (c : Configuration) (f : ℕ) 
   answer_59 : unfit_at to.known.clocks to.known.unfit (length rs) ≡ broken_record clocks rs
   answer_59 = rw (clocks_kept (take 64 rs) 0 from) (go (counts_fit clocks) refl)
     where
-      go : (x : Bool) → counts_fit clocks ≡ x → cond x (placed to.known.unfit (cond (ltb 64 (length rs)) (at 65) Nowhere)) (at 0) ≡ cond x (first_unfit clocks none 1 rs) (at 0)
+      go : (x : Bool) → counts_fit clocks ≡ x → cond x (option_or to.known.unfit (cond (ltb 64 (length rs)) (at 65) None)) (at 0) ≡ cond x (first_unfit clocks none 1 rs) (at 0)
       go true e = unfit_found (take 64 rs) 0 from e (omega (arith, length-take 64 rs)) _ ∙ rw bits_zero (sym (unfit_is clocks rs))
       go false e = refl
 
-  module _ (p : broken_record clocks rs ≡ Nowhere) where
+  module _ (p : broken_record clocks rs ≡ None) where
     -- there are at most 64 records: the first 64 are all
     all_seen : take 64 rs ≡ rs
     all_seen = take_all 64 rs (few_pass clocks rs p)
@@ -237,7 +234,7 @@ module _ (clocks : Clocks) (rs : List Constraint) (c : Configuration) (f : ℕ) 
     answer_60 : out_at to.known.out (length rs) c.words ≡ broken_word rs c.words
     answer_60 = rw all_seen (out_found rs 0 (length rs) from room (omega arith))
 
-    answer_judged : broken_word rs c.words ≡ Nowhere → judged_at to.known c (record { words = to.words }) ≡ judged (all_ticks clocks rs c.words f) rs c
+    answer_judged : broken_word rs c.words ≡ None → judged_at to.known c (record { words = to.words }) ≡ judged (all_ticks clocks rs c.words f) rs c
     unfolding judged
     answer_judged q = rw all_seen (go (first_failing G 1 rs c.words) refl)
       where
@@ -247,10 +244,10 @@ module _ (clocks : Clocks) (rs : List Constraint) (c : Configuration) (f : ℕ) 
         start : Judging G from 0 rs
         start = record { there = room; few = (clocks_pass clocks rs p).0; earlier = none; pass = (clocks_pass clocks rs p).1; fine = q; ticks = refl }
 
-        go : (b : Broken) → first_failing G 1 rs c.words ≡ b → judged_at (surveyed 0 from rs).known c (record { words = (surveyed 0 from rs).words })
-            ≡ handed_back Failed b c (handed_back PastMillion (first_past 1 rs (moved G rs c.words)) c (record { outcome = Held; configuration = record { words = moved G rs c.words } }))
-        go (At x) e = rw (failing_found G rs 0 from start, e)
-        go Nowhere e = rw (failing_found G rs 0 from start, e, past_found G rs 0 from start e, after_found G rs 0 from start e)
+        go : (b : Option Place) → first_failing G 1 rs c.words ≡ b → judged_at (surveyed 0 from rs).known c (record { words = (surveyed 0 from rs).words })
+            ≡ handed_back Failed b c (handed_back PastMillion (first_past 1 rs (moved G rs c.words)) c (record { outcome = Ok tt; configuration = record { words = moved G rs c.words } }))
+        go (Some x) e = rw (failing_found G rs 0 from start, e)
+        go None e = rw (failing_found G rs 0 from start, e, past_found G rs 0 from start e, after_found G rs 0 from start e)
 
   pub survey_steps : concluded to.known (length rs) c (record { words = to.words }) ≡ step_of clocks rs c f
   unfolding concluded step_of

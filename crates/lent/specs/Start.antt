@@ -1,22 +1,20 @@
 -- Where single steps begin: the start words of a list of records, where limit 59 lets it pass (document 01, "Table text", its third column, and
 -- "Where each refusal is checked", 59; document 02, M-101). Assumes nothing.
-use Rattle.std.specs.Prelude.{◌≡◌, refl, List, ◌∷◌, ℕ, ◌<◌, ◌^◌, pos, replicate}
+use Rattle.std.specs.Prelude.{Result, Ok, Err, ◌≡◌, refl, List, ◌∷◌, ℕ, ◌<◌, ◌^◌, pos, replicate, Option, None, Some}
 use Rattle.limit.specs.Limit.{number_of}
-use Rattle.limit.specs.declared.Check.{Check}
-use Rattle.limit.specs.declared.Check.TheVariants.{Passed, Refused}
 use Rattle.limit.specs.declared.Limit.TheVariants.{Records}
+use Rattle.limit.specs.declared.Place.{Place}
+use Rattle.limit.specs.declared.Refusal.{Refusal}
 use Rattle.constraint.specs.Implicit.{nested_clocks, nested_records}
 use Rattle.constraint.specs.Lists.{counting, broken_record, slots, start_words}
 use Rattle.constraint.specs.Meaning.{word}
-use Rattle.constraint.specs.declared.Broken.{Broken}
-use Rattle.constraint.specs.declared.Broken.TheVariants.{Nowhere, At}
 use Rattle.constraint.specs.declared.Clocks.{Clocks}
 use Rattle.constraint.specs.declared.Configuration.{Configuration}
 use Rattle.constraint.specs.declared.Constraint.{Constraint}
 use Rattle.judging.specs.Answers.{Passes}
 use Rattle.judging.specs.Single as single
 use Rattle.judging.specs.Single.{step_of, example_records}
-use Rattle.lent.specs.declared.Started.{Started}
+use Rattle.lent.specs.declared.Monitor.{Monitor}
 
 -- ---- the answer in document 01's words: the records have start words, or `refused` with number and place
 
@@ -24,26 +22,27 @@ pub data StartSaid : Type 0 where
   started : StartSaid
   refused : (number place : ℕ) → StartSaid
 
-abbrev pub start_said : Check → StartSaid
-start_said Passed = started
-start_said (Refused r) = refused (number_of r.limit) r.place.0
-
--- the claim: no two values of the answer in code have one meaning
-abbrev pub StartSaidDetermines : Type 0
-StartSaidDetermines = (x y : Check) → start_said x ≡ start_said y → x ≡ y
-
 pub record StartTold : Type 0 where
   pub said : StartSaid
   pub configuration : Configuration
 
-abbrev pub start_told : Started → StartTold
-start_told s = record { said = start_said s.outcome; configuration = s.monitor.configuration }
+-- where there is no monitor the words are zeros
+abbrev pub zeros : Configuration
+zeros = record { words = replicate 64 (word (pos 0)) }
+
+abbrev pub start_told : Result Monitor Refusal → StartTold
+start_told (Ok m) = record { said = started; configuration = m.configuration }
+start_told (Err r) = record { said = refused (number_of r.limit) r.place.0; configuration = zeros }
+
+-- the claim: no two values of the answer in code have one meaning
+abbrev pub StartSaidDetermines : Type 0
+StartSaidDetermines = (x y : Result Monitor Refusal) → start_told x ≡ start_told y → x ≡ y
 
 -- ---- 59, with 64 zero words; else the start word of each record, the rest 0, which is the start word of an empty slot
 
-abbrev pub start_at : Broken → List Constraint → StartTold
-start_at Nowhere rs = record { said = started; configuration = record { words = start_words (slots 64 rs) } }
-start_at (At p) rs = record { said = refused (number_of Records) p.0; configuration = record { words = replicate 64 (word (pos 0)) } }
+abbrev pub start_at : Option Place → List Constraint → StartTold
+start_at None rs = record { said = started; configuration = record { words = start_words (slots 64 rs) } }
+start_at (Some p) rs = record { said = refused (number_of Records) p.0; configuration = zeros }
 
 unfoldable pub start_of : Clocks → List Constraint → StartTold
 start_of clocks rs = start_at (broken_record clocks rs) rs

@@ -1,74 +1,61 @@
-// Where something is amiss, as a number that is 0 where nothing is; and limits 59 and 60, once the first records are known.
+// The lowest place where something is amiss; and limits 59 and 60, once the first records are known, which ask what is known of one fact and how many
+// records there are: a survey and a comparison hand in the same two, each from fields of its own.
 ghost use Rattle.std.specs.Prelude.{◌≡◌, [], ◌+◌, drop};
 ghost use Rattle.constraint.specs.Lists.{first_out};
 ghost use Rattle.lent.specs.Places as p;
 
-use constraint::{Broken, Clocks, Configuration};
-use limit::Place;
-
-// The place of record i, from 1; over 64 records have the place 65.
-pub fn place_of(i: usize) -> usize
-    ensures { result ≡ p.place_of i }
-{
-    if i < 64 {
-        return i + 1;
-    }
-    65
-}
+use constraint::{Clocks, Configuration};
+use limit::{Limit, Place, Refusal};
 
 // The lowest place at which a test fails: the one that is known, else this one.
-pub fn lowest(known: usize, passes: bool, place: usize) -> usize
+pub fn lowest(known: Option<Place>, passes: bool, place: Place) -> Option<Place>
     ensures { result ≡ p.lowest known passes place }
 {
-    if passes {
-        return known;
-    }
-    if known == 0 {
-        return place;
-    }
-    known
+    if passes { known } else { known.or(Some(place)) }
 }
 
 // Limit 59: counts of clocks that do not fit, the first record that does not, over 64 records.
-pub fn unfit_at(clocks: Clocks, unfit: usize, count: usize) -> Broken
+pub fn unfit_at(clocks: Clocks, unfit: Option<Place>, count: usize) -> Option<Place>
     ensures { result ≡ p.unfit_at clocks unfit count }
 {
-    if !constraint::counts_fit(clocks) {
-        return Broken::At(Place(0));
-    }
-    if unfit != 0 {
-        return Broken::At(Place(unfit));
+    if !clocks.fit() {
+        return Some(Place(0));
     }
     if 64 < count {
-        return Broken::At(Place(65));
+        return unfit.or(Some(Place(65)));
     }
-    Broken::Nowhere
+    unfit
 }
 
-// The first word from an index on that is not 0.
-fn first_beyond(configuration: Configuration, from: usize) -> Broken
-    ensures { result ≡ first_out (from + 1) [] (drop from configuration.words) }
+// The first word from an index on that is not 0; the words before it were asked with their records, in the walk. Both numbers are asked at once,
+// which is quicker.
+fn first_beyond(configuration: &Configuration, from: usize) -> Option<Place>
+    ensures { result ≡ first_out (from + 1) [] (drop from configuration.now.words) }
 {
-    let mut i = from;
-    while i < 64 {
-        let w = configuration.words[i];
-        if !constraint::in_range(constraint::empty(), w) {
-            return Broken::At(Place(i + 1));
+    for (i, word) in configuration.words.iter().enumerate().skip(from) {
+        if (word.first != 0) | (word.second != 0) {
+            return Some(Place(i + 1));
         }
-        i += 1;
     }
-    Broken::Nowhere
+    None
 }
 
 // Limit 60: the first word out of range, those beyond the records among them.
-pub fn out_at(out: usize, count: usize, configuration: Configuration) -> Broken
-    ensures { result ≡ p.out_at out count configuration.words }
+pub fn out_at(out: Option<Place>, count: usize, configuration: &Configuration) -> Option<Place>
+    ensures { result ≡ p.out_at out count configuration.now.words }
 {
-    if out != 0 {
-        return Broken::At(Place(out));
-    }
-    if 64 <= count {
-        return Broken::Nowhere;
+    if out.is_some() {
+        return out;
     }
     first_beyond(configuration, count)
+}
+
+// Refuses where a limit is broken.
+pub fn refuse_at(limit: Limit, broken: Option<Place>) -> Result<(), Refusal>
+    ensures { result ≡ p.refused_at limit broken }
+{
+    match broken {
+        Some(place) => Err(limit.at(place)),
+        None => Ok(()),
+    }
 }

@@ -3,8 +3,7 @@ use mathlib.Core.Path.{◌≡◌}
 use mathlib.Core.Bool.{Bool, true, false}
 use Prim.Native.Nat.{ℕ}
 use Rattle.limit.specs.Checked.{Checked, passed, stopped, refuse_if, and_then, checked}
-use Rattle.limit.specs.declared.Check.{Check}
-use Rattle.limit.specs.declared.Check.TheVariants.{Passed, Refused}
+use Rattle.std.specs.Prelude.{Result, Ok, Err}
 use Rattle.limit.specs.declared.Limit.{Limit}
 use Rattle.limit.specs.declared.Refusal.{Refusal}
 
@@ -27,13 +26,13 @@ pub then_same : {A B : Type 0} (c d : Checked A) (f : A → Checked B) → c ≡
 then_same c d f e = rw e
 
 -- what was read goes on, and what was refused is at its end
-pub goes_on_lem : {A B : Type 0} (o : Check) (a : A) (f : A → Checked B) → o ≡ Passed → and_then (checked o a) f ≡ f a
-goes_on_lem o a f e = goes_to (checked o a) f a (rw e)
+pub goes_on_lem : {A B : Type 0} (o : Result A Refusal) (a : A) (f : A → Checked B) → o ≡ Ok a → and_then (checked o) f ≡ f a
+goes_on_lem o a f e = goes_to (checked o) f a (rw e)
 
-pub ends_there : {A : Type 0} (o : Check) (a : A) (f : A → Checked A) (r : Refusal) → o ≡ Refused r → and_then (checked o a) f ≡ checked o a
+pub ends_there : {A : Type 0} (o : Result A Refusal) (f : A → Checked A) (r : Refusal) → o ≡ Err r → and_then (checked o) f ≡ checked o
 unfolding and_then
-ends_there o a f r e = rw e
+ends_there o f r e = rw e
 
 -- an answer in code that breaks a limit
-pub stops : {A : Type 0} (o : Check) (a : A) (l : Limit) (p : ℕ) → o ≡ Refused (record { limit = l; place = record { 0 = p } }) → checked o a ≡ stopped l p
-stops o a l p e = rw e
+pub stops : {A : Type 0} (o : Result A Refusal) (l : Limit) (p : ℕ) → o ≡ Err (record { limit = l; place = record { 0 = p } }) → checked o ≡ stopped l p
+stops o l p e = rw e

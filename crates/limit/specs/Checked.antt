@@ -1,10 +1,9 @@
 -- What a check comes to: a value, or the limit that is broken first and its place. Checks in their order are nested `refuse_if`s, a row of
 -- document 01, "Where each refusal is checked", a line. Assumes nothing.
-use Rattle.std.specs.Prelude.{◌≡◌, refl, Bool, true, false, ℕ, suc}
-use Rattle.limit.specs.declared.Check.{Check}
-use Rattle.limit.specs.declared.Check.TheVariants.{Passed, Refused}
+use Rattle.std.specs.Prelude.{◌≡◌, refl, Bool, true, false, ℕ, suc, Result, Ok, Err}
 use Rattle.limit.specs.declared.Limit.{Limit}
 use Rattle.limit.specs.declared.Limit.TheVariants.{LineByte, LineForm, NameLength}
+use Rattle.limit.specs.declared.Refusal.{Refusal}
 
 pub data Checked (A : Type 0) : Type 0 where
   passed : A → Checked A
@@ -18,10 +17,10 @@ unfoldable pub and_then : {A B : Type 0} → Checked A → (A → Checked B) →
 and_then (passed a) f = f a
 and_then (stopped l p) f = stopped l p
 
--- what an answer in code stands for: its check, with the value beside it
-abbrev pub checked : {A : Type 0} → Check → A → Checked A
-checked Passed a = passed a
-checked (Refused r) a = stopped r.limit r.place.0
+-- what an answer in code stands for
+abbrev pub checked : {A : Type 0} → Result A Refusal → Checked A
+checked (Ok a) = passed a
+checked (Err r) = stopped r.limit r.place.0
 
 -- the first that is broken is told; what follows a value goes on with it
 first_broken : refuse_if {A = ℕ} false LineByte 1 (refuse_if true LineForm 1 (refuse_if true NameLength 1 (passed 0))) ≡ stopped LineForm 1

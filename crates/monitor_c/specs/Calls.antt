@@ -1,18 +1,22 @@
 -- What each call returns and writes: `include/ccsl_monitor.h`, function by function. Assumes nothing.
-use Rattle.std.specs.Prelude.{Bool, not, cond, List, [], ◌∷◌, ℕ, ◌%◌, eqb, ltb, ℤ, length}
+use Rattle.std.specs.Prelude.{Bool, not, cond, List, [], ◌∷◌, ℕ, ◌%◌, eqb, ltb, ℤ, length, take, Result, Ok, Err}
 use Rattle.constraint.specs.SamePlace as place
 use Rattle.constraint.specs.SamePlace.{same_place_of}
 use Rattle.constraint.specs.declared.Configuration.{Configuration}
+use Rattle.constraint.specs.declared.Constraint.{Constraint}
 use Rattle.grammar.specs.Building.{clocks_in}
 use Rattle.table.specs.Reader as table
+use Rattle.recording.specs.declared.UnknownNames.{UnknownNames}
 use Rattle.run.specs.Run as run
 use Rattle.judging.specs.Single as single
 use Rattle.lent.specs.Start as start
 use Rattle.order.specs.Order as order
 use Rattle.reading.specs.Recorded as reading
 use Rattle.reading.specs.Written.{written}
-use Rattle.monitor_c.specs.Numbers.{unknown_ignored, unknown_of, clocks_of, records_of, kinds_known, record_numbers, name_numbers, configuration_of, word_numbers, of_run, of_table, of_start, of_step, of_place, of_order, answer_and}
+use Rattle.monitor_c.specs.Numbers.{unknown_ignored, unknown_of, of_run, clocks_of, records_of, kinds_known, record_numbers, name_numbers, padded, configuration_of, word_numbers, of_table, of_start, of_step, of_place, of_order, answer_and}
 use Rattle.monitor_c.specs.declared.AnswerNumbers.{AnswerNumbers}
+use Rattle.monitor_c.specs.declared.Status.{Status}
+use Rattle.monitor_c.specs.declared.Status.TheVariants.{Done, AnswerShort, WordsShort, RecordsShort, NamesShort, RecordsRagged, KindUnknown, OrderShort, ChoiceInvalid, StepsShort}
 
 -- ---- ccsl_layout
 
@@ -52,12 +56,42 @@ choice_invalid = 8
 abbrev pub steps_short : ℕ
 steps_short = 9
 
+-- the number of a status
+abbrev pub number : Status → ℕ
+number Done = done
+number AnswerShort = answer_short
+number WordsShort = words_short
+number RecordsShort = records_short
+number NamesShort = names_short
+number RecordsRagged = records_ragged
+number KindUnknown = kind_unknown
+number OrderShort = order_short
+number ChoiceInvalid = choice_invalid
+number StepsShort = steps_short
+
+-- what a call returns that found a shape lacking, or did its work
+abbrev pub returned : Result (Unit {0}) Status → ℕ
+returned (Ok u) = done
+returned (Err s) = number s
+
 -- the numbers of `records` do not come in rows
 abbrev pub ragged : List ℕ → Bool
 ragged ns = not (eqb (length ns % 8) 0)
 
 abbrev pub short : {A : Type 0} → List A → ℕ → Bool
 short xs n = ltb (length xs) n
+
+-- a list has so many numbers, or else a status is told
+abbrev pub room : (length least : ℕ) → Status → Result (Unit {0}) Status
+room n least s = cond (ltb n least) (Err s) (Ok tt)
+
+-- the shape that records have to have: their numbers come in rows, and each kind is one
+abbrev pub shape : List ℕ → Result (Unit {0}) Status
+shape ns = cond (ragged ns) (Err RecordsRagged) (cond (not (kinds_known ns)) (Err KindUnknown) (Ok tt))
+
+-- the choice for unknown names, which is one of two
+abbrev pub choice : ℕ → Result UnknownNames Status
+choice u = cond (ltb unknown_ignored u) (Err ChoiceInvalid) (Ok (unknown_of u))
 
 -- ---- ccsl_run
 
@@ -96,9 +130,9 @@ table_left s out rs ns = record { status = s; answer = out; records = rs; names 
 abbrev pub read_left : table.Told → (answer records names : List ℕ) → TableLeft
 read_left t out rs ns =
     table_left done
-    (written (answer_and (of_table t.said) (t.table.count ∷ (clocks_in t.table).count ∷ (clocks_in t.table).named ∷ [])) out)
-    (written (record_numbers t.table.records) rs)
-    (written (name_numbers t.table.names.spans) ns)
+    (written (answer_and (of_table t.said) (length t.table.records ∷ (clocks_in t.table).count ∷ (clocks_in t.table).named ∷ [])) out)
+    (written (padded 512 (record_numbers t.table.records)) rs)
+    (written (padded 64 (name_numbers t.table.names.spans)) ns)
 
 unfoldable pub read_into : (text : List ℕ) → (answer records names : List ℕ) → TableLeft
 read_into t out rs ns =

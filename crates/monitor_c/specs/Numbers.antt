@@ -1,7 +1,7 @@
 -- Kinds, records and answers as numbers: what `include/ccsl_monitor.h` says of their layout. Assumes nothing.
-use Rattle.std.specs.Prelude.{◌≡◌, refl, Bool, true, false, cond, ◌&&◌, List, [], ◌∷◌, map, ℕ, zero, suc, ◌+◌, ◌*◌, ◌/◌, ◌%◌, ◌≤◌, eqb, leb, ℤ, pos, length, get_or, take}
-use Rattle.std.specs.Int.Signed.{le_z}
-use Rattle.constraint.specs.Meaning.{numbers, parameter_fits}
+use Rattle.std.specs.Prelude.{◌≡◌, refl, Bool, true, cond, ◌&&◌, List, [], ◌∷◌, ◌++◌, map, ℕ, zero, suc, ◌+◌, ◌-◌, ◌*◌, ◌/◌, ◌%◌, ◌≤◌, eqb, leb, ℤ, length, get_or, take, replicate}
+use Rattle.std.specs.List.{flat_map}
+use Rattle.constraint.specs.Meaning.{parameter_fits}
 use Rattle.constraint.specs.Pairs.{first, second, paired}
 use Rattle.constraint.specs.SamePlace as place
 use Rattle.constraint.specs.declared.Clocks.{Clocks}
@@ -11,7 +11,6 @@ use Rattle.constraint.specs.declared.Counter.TheVariants.{Pending}
 use Rattle.constraint.specs.declared.Definition.TheVariants.{Union, Inter, Lub, Glb, Await, StrictlySampled, Sampled, Upto, Deferred}
 use Rattle.constraint.specs.declared.Kind.{Kind}
 use Rattle.constraint.specs.declared.Kind.TheVariants.{Empty, Relates, Defines}
-use Rattle.constraint.specs.declared.Parameter.{Parameter}
 use Rattle.constraint.specs.declared.Relation.TheVariants.{Coincides, Excludes, SubClock, StrictlyPrecedes, Precedes}
 use Rattle.constraint.specs.declared.Word.{Word}
 use Rattle.text.specs.declared.Span.{Span}
@@ -36,37 +35,6 @@ unknown_ignored = 1
 abbrev pub unknown_of : ℕ → UnknownNames
 unknown_of n = cond (eqb n unknown_refused) Refused Ignored
 
--- ---- kinds
-
--- in the order of their numbers, from 0
-abbrev pub kinds : List Kind
-kinds =
-    Empty
-    ∷ Relates Coincides ∷ Relates Excludes ∷ Relates SubClock ∷ Relates StrictlyPrecedes ∷ Relates Precedes
-    ∷ Defines Union ∷ Defines Inter ∷ Defines Lub ∷ Defines Glb ∷ Defines Await ∷ Defines StrictlySampled ∷ Defines Sampled ∷ Defines Upto
-    ∷ Defines Deferred ∷ []
-
--- the kind with a number; no kind has a number above 14
-abbrev pub kind_of : ℕ → Kind
-kind_of n = get_or kinds n Empty
-
-abbrev pub kind_number : Kind → ℕ
-kind_number Empty = 0
-kind_number (Relates Coincides) = 1
-kind_number (Relates Excludes) = 2
-kind_number (Relates SubClock) = 3
-kind_number (Relates StrictlyPrecedes) = 4
-kind_number (Relates Precedes) = 5
-kind_number (Defines Union) = 6
-kind_number (Defines Inter) = 7
-kind_number (Defines Lub) = 8
-kind_number (Defines Glb) = 9
-kind_number (Defines Await) = 10
-kind_number (Defines StrictlySampled) = 11
-kind_number (Defines Sampled) = 12
-kind_number (Defines Upto) = 13
-kind_number (Defines Deferred) = 14
-
 -- ---- records: kind, c, a, b, n, line, numbers, count
 
 -- a number above the most that is let pass counts as that
@@ -80,23 +48,71 @@ clock_of n = at_most 255 n
 abbrev pub clocks_of : (named clocks : ℕ) → Clocks
 clocks_of n m = record { named = clock_of n; count = clock_of m }
 
--- the first k bytes
-abbrev pub keep : (k numbers : ℕ) → ℕ
-keep zero x = 0
-keep (suc k) x = x % 256 + 256 * keep k (x / 256)
+-- ---- a delay's list in a number
 
--- the list of a delay, a number a byte, the first in the lowest: the first k of its numbers; the empty list where it has fewer, which ends at a
--- byte that is 0, or at the eighth
-abbrev pub list_of : (numbers count : ℕ) → ℕ
-list_of x k = cond (leb k (length (numbers (record { 0 = x })))) (keep k x) 0
+-- the numbers of a list, a number a byte, the first in the lowest, up to a byte that is 0, or to the last of so many bytes
+abbrev pub numbers_in : (most : ℕ) → ℕ → List ℕ
+numbers_in zero x = []
+numbers_in (suc k) x = cond (eqb (x % 256) 0) [] (x % 256 ∷ numbers_in k (x / 256))
+
+abbrev pub numbers : ℕ → List ℕ
+numbers x = numbers_in 8 x
+
+-- numbers as they are kept so
+abbrev pub packed : List ℕ → ℕ
+packed [] = 0
+packed (n ∷ ns) = n + 256 * packed ns
+
+-- the list of a delay: the first k of the numbers; the empty list where there are fewer
+abbrev pub list_of : (numbers count : ℕ) → List ℕ
+list_of x k = cond (leb k (length (numbers x))) (take k (numbers x)) []
 
 -- of the list `2 3` none, one, both, and one more than it has
-two_three : map (list_of (2 + 3 * 256)) (0 ∷ 1 ∷ 2 ∷ 3 ∷ []) ≡ 0 ∷ 2 ∷ (2 + 3 * 256) ∷ 0 ∷ []
+two_three : map (list_of (2 + 3 * 256)) (0 ∷ 1 ∷ 2 ∷ 3 ∷ []) ≡ [] ∷ (2 ∷ []) ∷ (2 ∷ 3 ∷ []) ∷ [] ∷ []
 two_three = refl
 
--- of a delay its list, of every other kind n
-abbrev pub parameter_of : (kind n numbers count : ℕ) → Parameter
-parameter_of k n x m = record { 0 = cond (eqb k 14) (list_of x m) (at_most 4_294_967_295 n) }
+-- ---- kinds
+
+-- in the order of their numbers, from 0; an await with its number, and a delay with its list
+abbrev pub kinds : ℕ → List ℕ → List Kind
+kinds n ns =
+    Empty
+    ∷ Relates Coincides ∷ Relates Excludes ∷ Relates SubClock ∷ Relates StrictlyPrecedes ∷ Relates Precedes
+    ∷ Defines Union ∷ Defines Inter ∷ Defines Lub ∷ Defines Glb ∷ Defines (Await n) ∷ Defines StrictlySampled ∷ Defines Sampled ∷ Defines Upto
+    ∷ Defines (Deferred ns) ∷ []
+
+-- the kind with a number; no kind has a number above 14
+abbrev pub kind_of : (kind n numbers count : ℕ) → Kind
+kind_of k n x m = get_or (kinds (at_most 4_294_967_295 n) (list_of x m)) k Empty
+
+abbrev pub kind_number : Kind → ℕ
+kind_number Empty = 0
+kind_number (Relates Coincides) = 1
+kind_number (Relates Excludes) = 2
+kind_number (Relates SubClock) = 3
+kind_number (Relates StrictlyPrecedes) = 4
+kind_number (Relates Precedes) = 5
+kind_number (Defines Union) = 6
+kind_number (Defines Inter) = 7
+kind_number (Defines Lub) = 8
+kind_number (Defines Glb) = 9
+kind_number (Defines (Await n)) = 10
+kind_number (Defines StrictlySampled) = 11
+kind_number (Defines Sampled) = 12
+kind_number (Defines Upto) = 13
+kind_number (Defines (Deferred ns)) = 14
+
+-- the number n of an await; every other kind has none
+abbrev pub await_number : Kind → ℕ
+await_number (Defines (Await n)) = n
+await_number k = 0
+
+-- the list of a delay; every other kind has none
+abbrev pub delay_list : Kind → List ℕ
+delay_list (Defines (Deferred ns)) = ns
+delay_list k = []
+
+-- ---- rows
 
 -- the eight numbers of a record
 pub record RecordRow : Type 0 where
@@ -111,11 +127,10 @@ pub record RecordRow : Type 0 where
 
 abbrev pub record_of : RecordRow → Constraint
 record_of s = record {
-  kind = kind_of s.kind;
+  kind = kind_of s.kind s.n s.numbers s.count;
   defined = clock_of s.c;
   first = clock_of s.a;
   second = clock_of s.b;
-  parameter = parameter_of s.kind s.n s.numbers s.count;
   line = record { 0 = s.line };
 }
 
@@ -142,7 +157,7 @@ all_known (s ∷ ss) = leb s.kind 14 && all_known ss
 abbrev pub kinds_known : List ℕ → Bool
 kinds_known ns = all_known (rows ns)
 
--- the eight from an offset on
+-- the eight numbers from an offset on
 abbrev pub row_at : List ℕ → ℕ → RecordRow
 row_at ns i = record {
   kind = get_or ns i 0;
@@ -155,28 +170,31 @@ row_at ns i = record {
   count = get_or ns (i + 7) 0;
 }
 
-abbrev pub delays : Constraint → Bool
-delays r = eqb (kind_number r.kind) 14
+-- whether the first of eight numbers is one of a kind
+abbrev pub kind_known : List ℕ → Bool
+kind_known row = leb (get_or row 0 0) 14
 
--- the numbers of records, in their order; a delay has no n, and every other kind no list
-abbrev pub record_numbers : List Constraint → List ℕ
-record_numbers [] = []
-record_numbers (r ∷ rs) =
+-- the eight numbers of a record: an await has its n, and a delay its list
+abbrev pub numbers_of : Constraint → List ℕ
+numbers_of r =
     kind_number r.kind ∷ r.defined ∷ r.first ∷ r.second
-    ∷ cond (delays r) 0 r.parameter.0
+    ∷ await_number r.kind
     ∷ r.line.0
-    ∷ cond (delays r) r.parameter.0 0
-    ∷ cond (delays r) (length (numbers r.parameter)) 0
-    ∷ record_numbers rs
+    ∷ packed (delay_list r.kind)
+    ∷ length (delay_list r.kind)
+    ∷ []
 
--- two numbers of each, one behind the other
-abbrev pub twos : {A B : Type 0} → (first second : A → B) → List A → List B
-twos f g [] = []
-twos f g (x ∷ xs) = f x ∷ g x ∷ twos f g xs
+-- the numbers of records, in their order
+abbrev pub record_numbers : List Constraint → List ℕ
+record_numbers rs = flat_map numbers_of rs
 
 -- where names start and end
 abbrev pub name_numbers : List Span → List ℕ
-name_numbers ps = twos (λ (p : Span). p.start) (λ (p : Span). p.end) ps
+name_numbers ps = flat_map (λ (p : Span). p.start ∷ p.end ∷ []) ps
+
+-- numbers in so many places, with 0 in those behind the last
+unfoldable pub padded : ℕ → List ℕ → List ℕ
+padded n ns = ns ++ replicate (n - length ns) 0
 
 -- ---- configurations
 
@@ -189,8 +207,12 @@ pairs (w ∷ v ∷ ws) = paired w v ∷ pairs ws
 abbrev pub configuration_of : List ℤ → Configuration
 configuration_of ws = record { words = take 64 (pairs ws) }
 
+-- the two words of each, one behind the other
+abbrev pub pair_numbers : List Word → List ℤ
+pair_numbers ws = flat_map (λ (w : Word). first w ∷ second w ∷ []) ws
+
 abbrev pub word_numbers : Configuration → List ℤ
-word_numbers c = twos first (λ (w : Word). pos (second w)) c.words
+word_numbers c = pair_numbers c.words
 
 -- ---- answers: what is said, 0 accepted, 1 violated, 2 refused, and its two numbers
 
@@ -231,13 +253,13 @@ answer_and t ns = t.said ∷ t.first ∷ t.second ∷ ns
 
 -- ---- a theorem: records that were written are read back as the same records
 
--- a record whose numbers fit their fields, and whose list is all that its parameter has
+-- a record whose numbers fit their fields, and whose list is all that its number has
 pub record Fitting (r : Constraint) : Type 0 where
   pub defined : r.defined ≤ 255
   pub first : r.first ≤ 255
   pub second : r.second ≤ 255
-  pub list : delays r ≡ true → r.parameter.0 ≡ list_of r.parameter.0 (length (numbers r.parameter))
-  pub number : delays r ≡ false → r.parameter.0 ≤ 4_294_967_295
+  pub list : list_of (packed (delay_list r.kind)) (length (delay_list r.kind)) ≡ delay_list r.kind
+  pub number : await_number r.kind ≤ 4_294_967_295
 
 pub data AllFitting : List Constraint → Type 0 where
   none : AllFitting []
@@ -248,13 +270,8 @@ ReadBack = (rs : List Constraint) → AllFitting rs → (records_of (record_numb
 
 -- ---- a theorem: words that were written are read back as the same configuration
 
--- words of 64 bits
-abbrev pub all_words : List Word → Bool
-all_words [] = true
-all_words (w ∷ ws) = le_z w.0 (pos 9_223_372_036_854_775_807) && all_words ws
-
 abbrev pub WordsReadBack : Type 0
-WordsReadBack = (c : Configuration) → length c.words ≡ 64 → all_words c.words ≡ true → configuration_of (word_numbers c) ≡ c
+WordsReadBack = (c : Configuration) → length c.words ≡ 64 → configuration_of (word_numbers c) ≡ c
 
 -- ---- a theorem: 59 of a list that was handed in lets one to eight numbers pass, each 1 to 32
 
@@ -263,4 +280,4 @@ all_fit zero x = true
 all_fit (suc k) x = (leb 1 (x % 256) && leb (x % 256) 32) && all_fit k (x / 256)
 
 abbrev pub ListsFit : Type 0
-ListsFit = (x k : ℕ) → parameter_fits Pending (record { 0 = list_of x k }) ≡ ((leb 1 k && leb k 8) && all_fit k x)
+ListsFit = (x k : ℕ) → parameter_fits (Pending (list_of x k)) ≡ ((leb 1 k && leb k 8) && all_fit k x)

@@ -2,52 +2,49 @@
 // that has not the shape that a call asks for is answered by a status, and nothing is written.
 #![tactic(auto)]
 
+mod calls;
+mod kinds;
 mod lists;
 mod numbers;
 mod records;
 
 ghost use Rattle.std.specs.Prelude.{◌≡◌};
-ghost use Rattle.monitor_c.specs.Calls.{layout, left, run_into, table_left, read_into, start_into, step_into, answer_left, place_into, order_left, order_into, steps_left, recording_into};
+ghost use Rattle.monitor_c.specs.Calls.{layout, left, run_into, steps_left, recording_into, table_left, read_into, start_into, step_into, answer_left, place_into, order_left, order_into, returned};
 
-use lists::{configuration_of, put_answer, put_names, put_order, put_records, put_words};
-use numbers::{check_numbers, place_numbers, step_numbers, unknown_of, verdict_numbers};
-use records::{clocks_of, kinds_known, records_of};
-
-// What every call returns, in the order of the checks.
-pub const DONE: u32 = 0;
-
-pub const ANSWER_SHORT: u32 = 1;
-
-pub const WORDS_SHORT: u32 = 2;
-
-pub const RECORDS_SHORT: u32 = 3;
-
-pub const NAMES_SHORT: u32 = 4;
-
-pub const RECORDS_RAGGED: u32 = 5;
-
-pub const KIND_UNKNOWN: u32 = 6;
-
-pub const ORDER_SHORT: u32 = 7;
-
-pub const CHOICE_INVALID: u32 = 8;
-
-pub const STEPS_SHORT: u32 = 9;
-
-// What becomes of a variable whose name the table lacks: `unknown` of ccsl_run and ccsl_read_recording.
-pub const UNKNOWN_REFUSED: u32 = 0;
-
-pub const UNKNOWN_IGNORED: u32 = 1;
+// What every call returns, in the order of the checks; the numbers are those of the header.
+#[derive(Clone, Copy, Debug, PartialEq, Eq)]
+pub enum Status {
+    Done = 0,
+    AnswerShort = 1,
+    WordsShort = 2,
+    RecordsShort = 3,
+    NamesShort = 4,
+    RecordsRagged = 5,
+    KindUnknown = 6,
+    OrderShort = 7,
+    ChoiceInvalid = 8,
+    StepsShort = 9,
+}
 
 // The layout of records and configurations: eight numbers a record, two words a record.
 pub const LAYOUT: u32 = 2;
 
-// An answer: what is said, and its two numbers, 0 where it has none.
-#[derive(Clone, Copy)]
+// An answer: what is said, and its two numbers, 0 where it has none. Numbers, since C has them so.
+#[derive(Clone, Copy, Debug, PartialEq, Eq)]
 pub struct AnswerNumbers {
     pub said: u64,
     pub first: u64,
     pub second: u64,
+}
+
+// The number that a call returns.
+fn returned(outcome: Result<(), Status>) -> u32
+    ensures { result ≡ returned outcome }
+{
+    match outcome {
+        Ok(()) => Status::Done as u32,
+        Err(status) => status as u32,
+    }
 }
 
 // The number of the layout of records and configurations.
@@ -60,7 +57,6 @@ pub extern "C" fn ccsl_layout() -> u32
 
 // Judges a recording by a table.
 #[unsafe(no_mangle)]
-#[tactic(auto, using(crate::proofs::CallLaws::stored_behind), unfolding(crate::specs::Calls::run_into))]
 pub extern "C" fn ccsl_run(
     table: &[u8],
     recording: &[u8],
@@ -70,29 +66,11 @@ pub extern "C" fn ccsl_run(
 ) -> u32
     ensures { left result answer.new words.new ≡ run_into table.now recording.now unknown answer.old words.old }
 {
-    if answer.len() < 5 {
-        return ANSWER_SHORT;
-    }
-    if words.len() < 128 {
-        return WORDS_SHORT;
-    }
-    if UNKNOWN_IGNORED < unknown {
-        return CHOICE_INVALID;
-    }
-    let report = run::run(table, recording, unknown_of(unknown));
-    let verdict = report.verdict;
-    let steps = report.steps;
-    let configuration = report.configuration;
-    put_answer(answer, verdict_numbers(verdict));
-    answer[3] = steps.0;
-    answer[4] = report.constraints as u64;
-    put_words(words, configuration);
-    DONE
+    returned(calls::run_into(table, recording, unknown, answer, words))
 }
 
 // Reads a table.
 #[unsafe(no_mangle)]
-#[tactic(auto, using(crate::proofs::CallLaws::stored_behind), unfolding(crate::specs::Calls::read_into))]
 pub extern "C" fn ccsl_read_table(
     text: &[u8],
     answer: &mut [u64],
@@ -101,33 +79,11 @@ pub extern "C" fn ccsl_read_table(
 ) -> u32
     ensures { table_left result answer.new records.new names.new ≡ read_into text.now answer.old records.old names.old }
 {
-    if answer.len() < 6 {
-        return ANSWER_SHORT;
-    }
-    if records.len() < 512 {
-        return RECORDS_SHORT;
-    }
-    if names.len() < 64 {
-        return NAMES_SHORT;
-    }
-    let read = table::read_table(text);
-    let outcome = read.outcome;
-    let table = read.table;
-    let clocks = table.names;
-    put_answer(answer, check_numbers(outcome));
-    answer[3] = table.count as u64;
-    answer[4] = (clocks.count + table.implicit) as u64;
-    answer[5] = clocks.count as u64;
-    let rows = table.records;
-    let spans = clocks.spans;
-    put_records(records, rows);
-    put_names(names, spans);
-    DONE
+    returned(calls::read_into(text, answer, records, names))
 }
 
 // The start words of records: where single steps begin.
 #[unsafe(no_mangle)]
-#[tactic(auto, unfolding(crate::specs::Calls::on_records))]
 pub extern "C" fn ccsl_start_words(
     records: &[u64],
     named: u32,
@@ -137,34 +93,11 @@ pub extern "C" fn ccsl_start_words(
 ) -> u32
     ensures { left result answer.new words.new ≡ start_into records.now named clocks answer.old words.old }
 {
-    if answer.len() < 3 {
-        return ANSWER_SHORT;
-    }
-    if words.len() < 128 {
-        return WORDS_SHORT;
-    }
-    if records.len() % 8 != 0 {
-        return RECORDS_RAGGED;
-    }
-    if !kinds_known(records) {
-        return KIND_UNKNOWN;
-    }
-    let started = lent::start_on(
-        records_of(records),
-        records.len() / 8,
-        clocks_of(named, clocks),
-    );
-    let outcome = started.outcome;
-    let monitor = started.monitor;
-    let configuration = monitor.configuration;
-    put_answer(answer, check_numbers(outcome));
-    put_words(words, configuration);
-    DONE
+    returned(calls::start_into(records, named, clocks, words, answer))
 }
 
 // One step of a monitor, whose words are moved where they stand if it is accepted, and left alone else.
 #[unsafe(no_mangle)]
-#[tactic(auto, unfolding(crate::specs::Calls::on_records))]
 pub extern "C" fn ccsl_step(
     records: &[u64],
     named: u32,
@@ -175,39 +108,11 @@ pub extern "C" fn ccsl_step(
 ) -> u32
     ensures { left result answer.new words.new ≡ step_into records.now named clocks ticks answer.old words.old }
 {
-    if answer.len() < 3 {
-        return ANSWER_SHORT;
-    }
-    if words.len() < 128 {
-        return WORDS_SHORT;
-    }
-    if records.len() % 8 != 0 {
-        return RECORDS_RAGGED;
-    }
-    if !kinds_known(records) {
-        return KIND_UNKNOWN;
-    }
-    let stepped = lent::step_on(
-        records_of(records),
-        records.len() / 8,
-        clocks_of(named, clocks),
-        configuration_of(words),
-        ticks,
-    );
-    let said = stepped.answer;
-    let configuration = stepped.configuration;
-    let numbers = step_numbers(said);
-    put_answer(answer, numbers);
-    if numbers.said != 0 {
-        return DONE;
-    }
-    put_words(words, configuration);
-    DONE
+    returned(calls::step_into(records, named, clocks, words, ticks, answer))
 }
 
 // Whether two configurations stand at the same place.
 #[unsafe(no_mangle)]
-#[tactic(auto, unfolding(crate::specs::Calls::place_into))]
 pub extern "C" fn ccsl_same_place(
     records: &[u64],
     named: u32,
@@ -218,35 +123,11 @@ pub extern "C" fn ccsl_same_place(
 ) -> u32
     ensures { answer_left result answer.new ≡ place_into records.now named clocks first.now second.now answer.old }
 {
-    if answer.len() < 3 {
-        return ANSWER_SHORT;
-    }
-    if first.len() < 128 {
-        return WORDS_SHORT;
-    }
-    if second.len() < 128 {
-        return WORDS_SHORT;
-    }
-    if records.len() % 8 != 0 {
-        return RECORDS_RAGGED;
-    }
-    if !kinds_known(records) {
-        return KIND_UNKNOWN;
-    }
-    let place = lent::same_place_on(
-        records_of(records),
-        records.len() / 8,
-        clocks_of(named, clocks),
-        configuration_of(first),
-        configuration_of(second),
-    );
-    put_answer(answer, place_numbers(place));
-    DONE
+    returned(calls::place_into(records, named, clocks, first, second, answer))
 }
 
 // The definitions of records in working order.
 #[unsafe(no_mangle)]
-#[tactic(auto, unfolding(crate::specs::Calls::order_into))]
 pub extern "C" fn ccsl_definition_order(
     records: &[u64],
     named: u32,
@@ -256,35 +137,11 @@ pub extern "C" fn ccsl_definition_order(
 ) -> u32
     ensures { order_left result answer.new order.new ≡ order_into records.now named clocks answer.old order.old }
 {
-    if answer.len() < 4 {
-        return ANSWER_SHORT;
-    }
-    if records.len() % 8 != 0 {
-        return RECORDS_RAGGED;
-    }
-    if !kinds_known(records) {
-        return KIND_UNKNOWN;
-    }
-    if order.len() < 32 {
-        return ORDER_SHORT;
-    }
-    let count = records.len() / 8;
-    let ordered = order::definition_order(
-        lent::first_64(records_of(records), count),
-        count,
-        clocks_of(named, clocks),
-    );
-    let outcome = ordered.outcome;
-    let listed = ordered.records;
-    put_answer(answer, check_numbers(outcome));
-    answer[3] = ordered.count as u64;
-    put_order(order, listed);
-    DONE
+    returned(calls::order_into(records, named, clocks, answer, order))
 }
 
 // Reads a recording by the names of a table: the steps that reading gives, with nothing judged, and how it ended.
 #[unsafe(no_mangle)]
-#[tactic(auto, using(crate::proofs::CallLaws::stored_behind), unfolding(crate::specs::Calls::recording_into))]
 pub extern "C" fn ccsl_read_recording(
     table: &[u8],
     recording: &[u8],
@@ -296,18 +153,5 @@ pub extern "C" fn ccsl_read_recording(
 ) -> u32
     ensures { steps_left result answer.new times.new marks.new ticks.new ≡ recording_into table.now recording.now unknown answer.old times.old marks.old ticks.old }
 {
-    if answer.len() < 4 {
-        return ANSWER_SHORT;
-    }
-    if UNKNOWN_IGNORED < unknown {
-        return CHOICE_INVALID;
-    }
-    let read = reading::read_recording(table, recording, unknown_of(unknown), times, marks, ticks);
-    if !read.room {
-        return STEPS_SHORT;
-    }
-    let outcome = read.outcome;
-    put_answer(answer, check_numbers(outcome));
-    answer[3] = read.steps as u64;
-    DONE
+    returned(calls::recording_into(table, recording, unknown, answer, times, marks, ticks))
 }

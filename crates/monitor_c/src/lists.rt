@@ -1,120 +1,92 @@
-// Lists of numbers that are written, and words that are read.
-ghost use Rattle.std.specs.Prelude.{◌≡◌, [], ◌∷◌, ◌+◌, ◌≤◌, length};
-ghost use Rattle.std.proofs.lemmas.List.Edits.{sets};
-ghost use Rattle.constraint.specs.Pairs.{paired};
+// Lists of numbers that are written, into room that C lends. Each walk has its own two lines: a function that takes them would be longer.
+ghost use Rattle.std.specs.Prelude.{◌≡◌, ◌*◌, ◌+◌, ◌-◌, ◌≤◌, ◌++◌, length, replicate};
 ghost use Rattle.reading.specs.Written.{written};
-ghost use Rattle.monitor_c.specs.Numbers.{answer_and, word_numbers, record_numbers, name_numbers, configuration_of};
+ghost use Rattle.monitor_c.specs.Numbers.{answer_and, pair_numbers, record_numbers, name_numbers, numbers_of, padded};
 
 use super::AnswerNumbers;
-use super::numbers::{kind_number, pick};
-use constraint::{Configuration, Constraint, Word, list_length};
+use super::kinds::{await_number, delay_list, kind_number, packed};
+use constraint::{Constraint, Word};
 use text::Span;
 
-// Writes an answer.
-pub fn put_answer(answer: &mut [u64], numbers: AnswerNumbers)
-    requires { 3 ≤ length answer.old }
-    ensures { answer.new ≡ written (answer_and numbers []) answer.old }
+// Writes zeros into the first places.
+fn clear(numbers: &mut [u64], count: usize)
+    requires { count ≤ length numbers.old }
+    ensures { numbers.new ≡ written (replicate count 0) numbers.old }
 {
-    answer[0] = numbers.said;
-    answer[1] = numbers.first;
-    answer[2] = numbers.second;
+    numbers[..count].fill(0);
 }
 
-// Writes the words of a configuration, two a record.
-pub fn put_words(words: &mut [i64], configuration: Configuration)
-    requires { 128 ≤ length words.old }
-    ensures { words.new ≡ written (word_numbers configuration) words.old }
+// Writes an answer, and other numbers behind it.
+pub fn put_answer(answer: &mut [u64], numbers: AnswerNumbers, more: &[u64])
+    requires { 3 + length more.now ≤ length answer.old }
+    ensures { answer.new ≡ written (answer_and numbers more.now) answer.old }
 {
-    let mut i: usize = 0;
-    while i < 64 {
-        let w = configuration.words[i];
-        words[2 * i] = constraint::first(w);
-        words[2 * i + 1] = constraint::second(w);
-        i += 1;
+    answer[..3].copy_from_slice(&[numbers.said, numbers.first, numbers.second]);
+    answer[3..3 + more.len()].copy_from_slice(more);
+}
+
+// Writes the pairs of a configuration.
+pub fn put_words(words: &mut [i64], pairs: &[Word])
+    requires { 2 * length pairs.now ≤ length words.old }
+    ensures { words.new ≡ written (pair_numbers pairs.now) words.old }
+{
+    for (i, pair) in pairs.iter().enumerate() {
+        words[2 * i] = pair.first;
+        words[2 * i + 1] = pair.second;
     }
 }
 
-// Writes the eight numbers of a constraint.
-fn put_record(numbers: &mut [u64], at: usize, constraint: Constraint)
-    requires { at + 8 ≤ length numbers.old }
-    ensures { numbers.new ≡ sets numbers.old at (record_numbers (constraint ∷ [])) }
+// Writes where names stand into 64 places, 0 behind the last.
+pub fn put_names(numbers: &mut [u64], spans: &[Span])
+    requires room { 64 ≤ length numbers.old }
+    requires few { length spans.now ≤ 32 }
+    ensures { numbers.new ≡ written (padded 64 (name_numbers spans.now)) numbers.old }
 {
-    let kind = constraint.kind;
-    let parameter = constraint.parameter;
-    let line = constraint.line;
-    let number = kind_number(kind);
-    let delay = number == 14;
-    numbers[at] = number;
-    numbers[at + 1] = constraint.defined as u64;
-    numbers[at + 2] = constraint.first as u64;
-    numbers[at + 3] = constraint.second as u64;
-    numbers[at + 4] = pick(delay, 0, parameter.0);
-    numbers[at + 5] = line.0 as u64;
-    numbers[at + 6] = pick(delay, parameter.0, 0);
-    numbers[at + 7] = pick(delay, list_length(parameter) as u64, 0);
-}
-
-// Writes the records of a table.
-pub fn put_records(numbers: &mut [u64], records: [Constraint; 64])
-    requires { 512 ≤ length numbers.old }
-    ensures { numbers.new ≡ written (record_numbers records) numbers.old }
-{
-    let mut i: usize = 0;
-    while i < 64 {
-        put_record(numbers, 8 * i, records[i]);
-        i += 1;
-    }
-}
-
-// Writes where names stand.
-pub fn put_names(numbers: &mut [u64], spans: [Span; 32])
-    requires { 64 ≤ length numbers.old }
-    ensures { numbers.new ≡ written (name_numbers spans) numbers.old }
-{
-    let mut i: usize = 0;
-    while i < 32 {
-        let span = spans[i];
+    clear(numbers, 64);
+    for (i, span) in spans.iter().enumerate() {
         numbers[2 * i] = span.start as u64;
         numbers[2 * i + 1] = span.end as u64;
-        i += 1;
     }
 }
 
-// Writes the numbers of listed records.
-pub fn put_order(numbers: &mut [u64], records: [usize; 32])
-    requires { 32 ≤ length numbers.old }
-    ensures { numbers.new ≡ written records numbers.old }
+// The eight numbers of a constraint.
+fn numbers_of(constraint: &Constraint) -> [u64; 8]
+    ensures { result ≡ numbers_of constraint.now }
 {
-    let mut i: usize = 0;
-    while i < 32 {
-        numbers[i] = records[i] as u64;
-        i += 1;
+    let kind = &constraint.kind;
+    let list = delay_list(kind);
+    [
+        kind_number(kind),
+        u64::from(constraint.defined),
+        u64::from(constraint.first),
+        u64::from(constraint.second),
+        await_number(kind),
+        constraint.line.0 as u64,
+        packed(&list),
+        list.len() as u64,
+    ]
+}
+
+// Writes the numbers of records, eight a record, into 512 places, 0 behind the last.
+pub fn put_records(numbers: &mut [u64], records: &[Constraint])
+    requires room { 512 ≤ length numbers.old }
+    requires few { length records.now ≤ 64 }
+    ensures { numbers.new ≡ written (padded 512 (record_numbers records.now)) numbers.old }
+{
+    clear(numbers, 512);
+    for (i, constraint) in records.iter().enumerate() {
+        numbers[8 * i..8 * i + 8].copy_from_slice(&numbers_of(constraint));
     }
 }
 
-// `paired`, which has less to test where the second word is 0, as it is of all but a delay.
-fn word_of(first: i64, second: i64) -> Word
-    ensures { result ≡ paired first second }
+// Writes the numbers of listed records into 32 places, 0 behind the last.
+pub fn put_order(numbers: &mut [u64], records: &[usize])
+    requires room { 32 ≤ length numbers.old }
+    requires few { length records.now ≤ 32 }
+    ensures { numbers.new ≡ written (padded 32 records.now) numbers.old }
 {
-    if second != 0 {
-        return constraint::paired(first, second);
+    clear(numbers, 32);
+    for (i, record) in records.iter().enumerate() {
+        numbers[i] = *record as u64;
     }
-    if 4294967295 < first {
-        return constraint::paired(first, second);
-    }
-    Word(first)
-}
-
-// The configuration with the first 64 pairs of words.
-pub fn configuration_of(words: &[i64]) -> Configuration
-    requires { 128 ≤ length words.now }
-    ensures { result ≡ configuration_of words.now }
-{
-    let mut read = [Word(0); 64];
-    let mut i: usize = 0;
-    while i < 64 {
-        read[i] = word_of(words[2 * i], words[2 * i + 1]);
-        i += 1;
-    }
-    Configuration { words: read }
 }

@@ -1,78 +1,87 @@
-// Records as they are handed in: eight numbers each.
-ghost use Rattle.std.specs.Prelude.{◌≡◌, ◌+◌, ◌≤◌, length, replicate};
-ghost use Rattle.std.proofs.lemmas.List.Edits.{sets};
-ghost use Rattle.constraint.specs.Lists.{empty};
-ghost use Rattle.monitor_c.specs.Numbers.{clock_of, clocks_of, kinds_known, record_of, records_of, row_at};
+// Records and configurations as C hands them in, in numbers. Functions, since `From` between types of other crates is not allowed.
+ghost use Rattle.std.specs.Prelude.{◌≡◌, ◌+◌, ◌≤◌, length, take};
+ghost use Rattle.std.specs.List.{list_all};
+ghost use Rattle.monitor_c.specs.Calls.{shape};
+ghost use Rattle.monitor_c.specs.Numbers.{clock_of, clocks_of, configuration_of, kind_known, record_of, records_of, row_at};
 
-use super::numbers::{at_most, kind_of, parameter_of};
-use constraint::{Clocks, Constraint};
+use super::Status;
+use super::kinds::{clock_of, kind_of};
+use constraint::{Clocks, Configuration, Constraint, Word};
+use grammar::Constraints;
 use limit::Place;
-
-// Whether every record's kind is one.
-pub fn kinds_known(numbers: &[u64]) -> bool
-    ensures { result ≡ kinds_known numbers.now }
-{
-    let mut at: usize = 0;
-    while at + 8 <= numbers.len() {
-        if 14 < numbers[at] {
-            return false;
-        }
-        at += 8;
-    }
-    true
-}
-
-// The number of a clock, or of clocks; one above 255 counts as 255.
-fn clock_of(n: u64) -> u8
-    ensures { result ≡ clock_of n }
-{
-    at_most(255, n) as u8
-}
 
 // How many clocks are named, and how many there are.
 pub fn clocks_of(named: u32, clocks: u32) -> Clocks
     ensures { result ≡ clocks_of named clocks }
 {
     Clocks {
-        named: clock_of(named as u64),
-        count: clock_of(clocks as u64),
+        named: clock_of(u64::from(named)),
+        count: clock_of(u64::from(clocks)),
     }
 }
 
-// The record whose eight numbers begin at an offset.
-fn record_at(numbers: &[u64], at: usize) -> Constraint
-    requires { at + 8 ≤ length numbers.now }
-    ensures { result ≡ record_of (row_at numbers.now at) }
+// The record that eight numbers stand for.
+fn record_of(row: &[u64; 8]) -> Constraint
+    ensures { result ≡ record_of (row_at row.now 0) }
 {
+    let [kind, c, a, b, n, line, numbers, count] = *row;
     Constraint {
-        kind: kind_of(numbers[at]),
-        defined: clock_of(numbers[at + 1]),
-        first: clock_of(numbers[at + 2]),
-        second: clock_of(numbers[at + 3]),
-        parameter: parameter_of(
-            numbers[at],
-            numbers[at + 4],
-            numbers[at + 6],
-            numbers[at + 7],
-        ),
-        line: Place(numbers[at + 5] as usize),
+        kind: kind_of(kind, n, numbers, count),
+        defined: clock_of(c),
+        first: clock_of(a),
+        second: clock_of(b),
+        line: Place(line as usize),
     }
 }
 
-// The first 66 records, empty behind the last.
-pub fn records_of(numbers: &[u64]) -> [Constraint; 66]
-    ensures { result ≡ sets (replicate 66 empty) 0 (records_of numbers.now) }
+// Whether every record's kind is one.
+fn kinds_known(rows: &[[u64; 8]]) -> bool
+    ensures { result ≡ list_all kind_known rows.now }
 {
-    let mut records = [constraint::empty(); 66];
-    let mut at: usize = 0;
-    let mut i: usize = 0;
-    while i < 66 {
-        if numbers.len() < at + 8 {
-            return records;
-        }
-        records[i] = record_at(numbers, at);
-        at += 8;
-        i += 1;
+    rows.iter().all(|row| row[0] <= 14)
+}
+
+// Whether the numbers have the shape of records: they come in eights, and each record's kind is one.
+pub fn shape(numbers: &[u64]) -> Result<(), Status>
+    ensures { result ≡ shape numbers.now }
+{
+    let (rows, rest) = numbers.as_chunks::<8>();
+    if !rest.is_empty() {
+        return Err(Status::RecordsRagged);
+    }
+    if !kinds_known(rows) {
+        return Err(Status::KindUnknown);
+    }
+    Ok(())
+}
+
+// The records that the numbers stand for, the first 65 of them, since more than 64 are refused at the 65th.
+pub fn records_of(numbers: &[u64]) -> Constraints<65>
+    ensures { result ≡ take 65 (records_of numbers.now) }
+{
+    let (rows, _) = numbers.as_chunks::<8>();
+    let first = &rows[..rows.len().min(65)];
+    let mut records = Constraints::new();
+    for row in first {
+        records.push(record_of(row));
     }
     records
+}
+
+// The configuration with the first 64 pairs of words.
+pub fn configuration_of(words: &[i64]) -> Configuration
+    requires { 128 ≤ length words.now }
+    ensures { result ≡ configuration_of words.now }
+{
+    let mut pairs = [Word {
+        first: 0,
+        second: 0,
+    }; 64];
+    for i in 0..64 {
+        pairs[i] = Word {
+            first: words[2 * i],
+            second: words[2 * i + 1],
+        };
+    }
+    Configuration { words: pairs }
 }

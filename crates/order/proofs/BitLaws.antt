@@ -1,16 +1,22 @@
 -- Sets of clocks below 32 as numbers: the bits of and, and of exclusive or; which clocks are among those of a list; the number of no clock. Assumes
 -- nothing.
 use mathlib.Core.Path.{◌≡◌, refl, sym, ap, ◌∙◌}
-use mathlib.Core.Bool.{Bool, true, false, not, cond, ◌&&◌, or_comm}
-use mathlib.Core.List.{List, [], ◌∷◌}
+use mathlib.Core.Bool.{Bool, true, false, not, cond, ◌&&◌, ◌||◌, or_comm, or_assoc, or-false}
+use mathlib.Core.List.{List, [], ◌∷◌, map}
 use Prim.Native.Nat.{ℕ, ◌<◌, ◌^◌}
 use native.Mathlib.Omega.{arith}
 use borrow.Author.Tests.{eqb-true}
 use lib.Bits.{bit_and, bit_xor, and_shr, and_mod, xor_shr, xor_mod}
 use lib.Dec.{eqb}
+use Rattle.std.specs.List.{fold}
 use Rattle.constraint.specs.Meaning.{among}
-use Rattle.constraint.specs.Ticks.{bits, bit, with_ticks}
-use Rattle.constraint.proofs.TickSets.{bits_by, bits_power, tick_bit, tick_below, bits_zero, number_same, number_bits}
+use Rattle.constraint.specs.Ticks.{bits, bit, with_tick, with_ticks}
+use Rattle.constraint.proofs.TickSets.{bits_below, bits_by, bits_power, tick_bit, tick_below, bits_zero, number_same, number_bits}
+use Rattle.order.specs.declared.Defined.{Defined}
+
+-- a set of a u32 has no clock from 32 up
+pub clock_below : (left k : ℕ) → left < 4_294_967_296 → bits left k ≡ true → k < 32
+clock_below left k h e = bits_below left 32 h k e
 
 -- ---- bit by bit
 
@@ -49,6 +55,15 @@ bits_ticks (k ∷ ks) c h = tick_bit (with_ticks 0 ks) k c h ∙ rw (bits_ticks 
 pub ticks_below : (ks : List ℕ) → with_ticks 0 ks < 2 ^ 32
 ticks_below [] = omega arith
 ticks_below (k ∷ ks) = tick_below (with_ticks 0 ks) k (ticks_below ks)
+
+-- those of definitions, put in one after another
+pub bits_fold : (ds : List Defined) (f c : ℕ) → c < 32 → bits (fold (λ g d. with_tick g d.clock) f ds) c ≡ (bits f c || among c (map (λ d. d.clock) ds))
+bits_fold [] f c h = sym (or-false (bits f c))
+bits_fold (d ∷ ds) f c h = bits_fold ds (with_tick f d.clock) c h ∙ rw (tick_bit f d.clock c h) (or_assoc (bits f c) (eqb c d.clock) (among c (map (λ e. e.clock) ds)))
+
+pub fold_below : (ds : List Defined) (f : ℕ) → f < 2 ^ 32 → fold (λ g d. with_tick g d.clock) f ds < 2 ^ 32
+fold_below [] f h = h
+fold_below (d ∷ ds) f h = fold_below ds (with_tick f d.clock) (tick_below f d.clock h)
 
 -- ---- no clock
 

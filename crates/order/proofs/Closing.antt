@@ -2,7 +2,8 @@
 use mathlib.Core.Path.{◌≡◌, refl, sym, ap, ◌∙◌, fun_ext}
 use mathlib.Core.Bool.{Bool, true, false, cond, ◌&&◌, ◌||◌, or-false}
 use mathlib.Core.List.{List, [], ◌∷◌, map}
-use Prim.Native.Nat.{ℕ, zero, suc, ◌+◌, ◌<◌, ◌≤◌}
+use Prim.Native.Nat.{ℕ, zero, suc, ◌+◌, ◌-◌, ◌<◌, ◌≤◌}
+use native.Mathlib.Numerals.{add-one}
 use native.Mathlib.Omega.{arith}
 use borrow.Author.Tests.{eqb-false}
 use lib.Bits.{bit_or}
@@ -56,3 +57,15 @@ pub linked_closed : (n k : ℕ) (rows : List ℕ) → linked (closed_from n k ro
 unfolding closed_from closed
 linked_closed zero k rows = refl
 linked_closed (suc n) k rows = linked_closed n (suc k) (rows_through k rows) ∙ ap (closed (up_from n (suc k))) (linked_through k rows)
+
+-- ---- a turn of the loop over the clocks
+
+pub closed_on : (turns k : ℕ) (rows : List ℕ) → k < turns → closed_from (turns - k) k rows ≡ closed_from (turns - (k + 1)) (k + 1) (rows_through k rows)
+unfolding closed_from
+closed_on turns k rows h =
+    let t : turns - k ≡ suc (turns - (k + 1)) = omega arith in
+    rw (t, add-one k)
+
+pub closed_done : (turns k : ℕ) (rows : List ℕ) → turns ≤ k → closed_from (turns - k) k rows ≡ rows
+unfolding closed_from
+closed_done turns k rows h = let z : turns - k ≡ 0 = omega arith in rw z

@@ -4,20 +4,19 @@ use mathlib.Core.Path.{◌≡◌, refl, sym, ap}
 use mathlib.Core.Bool.{true, false, ◌||◌}
 use mathlib.Core.List.{List, [], ◌∷◌, ◌++◌, map}
 use Prim.Native.Nat.{ℕ, suc, ◌≤◌}
-use native.Mathlib.Omega.{arith}
 use borrow.Author.Tests.{eqb-false, ne_eqb}
 use lib.Dec.{ltb, eqb}
 use lib.ListN.{length, length-map}
+use Rattle.std.specs.Prelude.{None}
 use Rattle.constraint.specs.Lists.{first_unfit, broken_record}
 use Rattle.constraint.specs.Meaning.{defined_by, defined_of, used_of, all_below, among, distinct}
 use Rattle.constraint.specs.Ticks.{Ticks, none, adding, adding_all, any}
-use Rattle.constraint.specs.declared.Broken.TheVariants.{Nowhere}
 use Rattle.constraint.specs.declared.Clocks.{Clocks}
 use Rattle.constraint.specs.declared.Constraint.{Constraint}
 use Rattle.constraint.specs.declared.Kind.{Kind}
 use Rattle.constraint.specs.declared.Kind.TheVariants.{Empty, Relates, Defines}
 use Rattle.constraint.proofs.Booleans.{and_l, or_l, or_r}
-use Rattle.constraint.proofs.Demand3.{clocks_pass, record_passes, once_passes, later_pass, records_pass}
+use Rattle.constraint.proofs.Demand3.{clocks_pass, record_passes, once_passes, later_pass}
 use Rattle.constraint.proofs.OneMore.{below_more}
 use Rattle.order.specs.Order.{definitions_from, definitions}
 use Rattle.order.specs.Rows.{defined_as, gathered, clocks_in}
@@ -68,7 +67,7 @@ new_more n E c cs f b w =
     let a = added c E cs w.fresh in
     record { fresh = rw f a.0; below = rw b w.below; differ = rw a.1 w.differ }
 
-clocks_new : (clocks : Clocks) (E : Ticks) (i : ℕ) (rs : List Constraint) → first_unfit clocks E i rs ≡ Nowhere → New clocks.count E (clocks_in (gathered i rs))
+clocks_new : (clocks : Clocks) (E : Ticks) (i : ℕ) (rs : List Constraint) → first_unfit clocks E i rs ≡ None → New clocks.count E (clocks_in (gathered i rs))
 clocks_new clocks E i [] e = record { fresh = refl; below = refl; differ = refl }
 clocks_new clocks E i (r ∷ rs) e =
     by_defined r
@@ -79,7 +78,7 @@ clocks_new clocks E i (r ∷ rs) e =
     later : List ℕ
     later = clocks_in (gathered (suc i) rs)
 
-module _ (clocks : Clocks) (rs : List Constraint) (e : broken_record clocks rs ≡ Nowhere) where
+module _ (clocks : Clocks) (rs : List Constraint) (e : broken_record clocks rs ≡ None) where
   passed : New clocks.count none (clocks_in (gathered 1 rs))
   passed = clocks_new clocks none 1 rs (clocks_pass clocks rs e).1
 
@@ -91,6 +90,3 @@ module _ (clocks : Clocks) (rs : List Constraint) (e : broken_record clocks rs �
 
   pub gathered_few : length (gathered 1 rs) ≤ 32
   gathered_few = rw (length-map (gathered 1 rs) (λ d. d.clock)) at (few 32 (clocks_in (gathered 1 rs)) gathered_below gathered_differ)
-
-  pub few_records : length rs ≤ 64
-  few_records = omega (arith, records_pass clocks none 1 rs (omega arith) (clocks_pass clocks rs e).1)

@@ -8,11 +8,11 @@ use Prim.Native.Nat.{ℕ, suc, ◌+◌, ◌<◌, ◌^◌}
 use native.Mathlib.Omega.{arith}
 use borrow.Author.Tests.{eqb-true, eq-eqb, ltb-true}
 use lib.Dec.{eqb, ltb}
+use Rattle.std.specs.Prelude.{None}
 use Rattle.constraint.specs.Lists.{broken_record}
 use Rattle.constraint.specs.Meaning.{defined_of, used_of, all_below, among, distinct}
 use Rattle.constraint.specs.SamePlace.{record_at}
 use Rattle.constraint.specs.Ticks.{any, bits, with_ticks}
-use Rattle.constraint.specs.declared.Broken.TheVariants.{Nowhere}
 use Rattle.constraint.specs.declared.Clocks.{Clocks}
 use Rattle.constraint.specs.declared.Constraint.{Constraint}
 use Rattle.constraint.proofs.Booleans.{and_l, and_r, both_ways}
@@ -91,7 +91,7 @@ same_clock rs d e m n s =
     cc
 
 -- ---- where 59 lets the list pass
-module _ (clocks : Clocks) (rs : List Constraint) (ok : broken_record clocks rs ≡ Nowhere) where
+module _ (clocks : Clocks) (rs : List Constraint) (ok : broken_record clocks rs ≡ None) where
   abbrev ts : List Defined
   ts = gathered 1 rs
 

@@ -6,18 +6,17 @@ use mathlib.Core.List.{List, [], ◌∷◌}
 use Prim.Native.Nat.{ℕ}
 use native.Mathlib.Omega.{arith}
 use lib.Dec.{eqb}
+use Rattle.std.specs.Prelude.{Option, None, Some}
 use Rattle.constraint.specs.Ticks.{any}
 use Rattle.order.specs.Rests.{without, Lowest, nothing, is, lowest}
-use Rattle.order.specs.Rows.{lowest_of}
+use Rattle.std.specs.List.{find}
 use Rattle.order.specs.declared.Defined.{Defined}
-use Rattle.order.specs.declared.Found.{Found}
-use Rattle.order.specs.declared.Found.TheVariants.{Nothing, Is}
 use Rattle.order.proofs.Gathered.{In}
 use Rattle.order.proofs.GatherLaws.{numbers_in}
 
-abbrev pub told : Found → Lowest
-told Nothing = nothing
-told (Is d) = is d.number
+abbrev pub told : Option Defined → Lowest
+told None = nothing
+told (Some d) = is d.number
 
 -- the numbers of those that pass a test
 abbrev pub kept : (Defined → Bool) → List Defined → List ℕ
@@ -66,25 +65,25 @@ without_kept keep more n (t ∷ ts) same = rw (same t (Memᴰ.head refl)) (go (e
 
 -- the lowest that passes two tests is the lowest of those that pass one, by the other
 pub lowest_told : (keep test : Defined → Bool) (by : ℕ → Bool) (ts : List Defined) → ((d : Defined) → In d ts → test d ≡ by d.number)
-    → told (lowest_of (λ d. keep d && test d) ts) ≡ lowest by (kept keep ts)
+    → told (find (λ d. keep d && test d) ts) ≡ lowest by (kept keep ts)
 lowest_told keep test by [] same = refl
 lowest_told keep test by (d ∷ ts) same = go (keep d) (lowest_told keep test by ts (λ x m. same x (Memᴰ.tail m)))
   where
-    passes : (t : Bool) → told (lowest_of (λ x. keep x && test x) ts) ≡ lowest by (kept keep ts)
-        → told (cond t (Is d) (lowest_of (λ x. keep x && test x) ts)) ≡ cond t (is d.number) (lowest by (kept keep ts))
+    passes : (t : Bool) → told (find (λ x. keep x && test x) ts) ≡ lowest by (kept keep ts)
+        → told (cond t (Some d) (find (λ x. keep x && test x) ts)) ≡ cond t (is d.number) (lowest by (kept keep ts))
     passes true e = refl
     passes false e = e
 
-    go : (t : Bool) → told (lowest_of (λ x. keep x && test x) ts) ≡ lowest by (kept keep ts)
-        → told (cond (t && test d) (Is d) (lowest_of (λ x. keep x && test x) ts)) ≡ lowest by (cond t (d.number ∷ kept keep ts) (kept keep ts))
+    go : (t : Bool) → told (find (λ x. keep x && test x) ts) ≡ lowest by (kept keep ts)
+        → told (cond (t && test d) (Some d) (find (λ x. keep x && test x) ts)) ≡ lowest by (cond t (d.number ∷ kept keep ts) (kept keep ts))
     go true e = rw (same d (Memᴰ.head refl)) (passes (by d.number) e)
     go false e = e
 
 -- what is found stands in the list, and passes
-pub lowest_found : (test : Defined → Bool) (ts : List Defined) (d : Defined) → lowest_of test ts ≡ Is d → In d ts × (test d ≡ true)
+pub lowest_found : (test : Defined → Bool) (ts : List Defined) (d : Defined) → find test ts ≡ Some d → In d ts × (test d ≡ true)
 lowest_found test [] d e = let z : ◌≡◌ {A = ℕ} 0 1 = cc in absurd (omega arith)
 lowest_found test (t ∷ ts) d e = go (test t) refl e (lowest_found test ts d)
   where
-    go : (b : Bool) → test t ≡ b → cond b (Is t) (lowest_of test ts) ≡ Is d → (lowest_of test ts ≡ Is d → In d ts × (test d ≡ true)) → In d (t ∷ ts) × (test d ≡ true)
+    go : (b : Bool) → test t ≡ b → cond b (Some t) (find test ts) ≡ Some d → (find test ts ≡ Some d → In d ts × (test d ≡ true)) → In d (t ∷ ts) × (test d ≡ true)
     go true q u ih = let s : d ≡ t = cc in (Memᴰ.head s, rw s q)
     go false q u ih = let (m, p) = ih u in (Memᴰ.tail m, p)

@@ -9,17 +9,18 @@ use borrow.Author.Tests.{eqb-false, ltb-true}
 use lib.Dec.{eqb, ltb}
 use lib.ListN.{length, get_or, set, replicate, length-set}
 use lib.Seq.{get_or-set_same, get_or-set_other}
+use Rattle.std.specs.Prelude.{None}
 use Rattle.constraint.specs.Lists.{broken_record}
 use Rattle.constraint.specs.Meaning.{among, all_below, distinct}
 use Rattle.constraint.specs.Ticks.{bits}
-use Rattle.constraint.specs.declared.Broken.TheVariants.{Nowhere}
 use Rattle.constraint.specs.declared.Clocks.{Clocks}
 use Rattle.constraint.specs.declared.Constraint.{Constraint}
 use Rattle.constraint.proofs.Booleans.{and_l, and_r, or_l, or_r, both_ways}
 use Rattle.constraint.proofs.TickSets.{bits_zero, bits_below}
 use Rattle.order.specs.Order.{rests_on, definitions}
 use Rattle.order.specs.Rests.{Links, lowest, closed, circle, Chain}
-use Rattle.order.specs.Rows.{gathered, clocks_in, lowest_of, rows_with, rows_of, closed_from, on_circle}
+use Rattle.std.specs.List.{find}
+use Rattle.order.specs.Rows.{gathered, clocks_in, rows_with, rows_of, closed_from, on_circle}
 use Rattle.order.specs.declared.Defined.{Defined}
 use Rattle.order.proofs.Carried.{carried}
 use Rattle.order.proofs.Chains.{closed_chain, chain_closed}
@@ -51,7 +52,7 @@ no_row (suc n) zero = refl
 no_row (suc n) (suc c) = no_row n c
 
 -- ---- where 59 lets the list pass
-module _ (clocks : Clocks) (rs : List Constraint) (ok : broken_record clocks rs ≡ Nowhere) where
+module _ (clocks : Clocks) (rs : List Constraint) (ok : broken_record clocks rs ≡ None) where
   abbrev ts : List Defined
   ts = gathered 1 rs
 
@@ -110,7 +111,7 @@ module _ (clocks : Clocks) (rs : List Constraint) (ok : broken_record clocks rs 
       here : Of d.number d.clock
       here = (d, m, refl, refl)
 
-  pub circle_found : told (lowest_of (on_circle (closed_from 32 0 (rows_of ts))) ts) ≡ circle (rests_on rs) (definitions rs)
+  pub circle_found : told (find (on_circle (closed_from 32 0 (rows_of ts))) ts) ≡ circle (rests_on rs) (definitions rs)
   circle_found =
       lowest_told (λ d. true) (on_circle (closed_from 32 0 (rows_of ts))) (λ i. closed (definitions rs) (rests_on rs) i i) ts same_circles
       ∙ ap (lowest (λ i. closed (definitions rs) (rests_on rs) i i)) (all_kept (λ d. true) ts (λ d m. refl) ∙ gathered_numbers rs)

@@ -1,28 +1,28 @@
 -- The turns on a set of clocks that are left are the turns on the numbers of their records. Assumes nothing.
 use mathlib.Core.Path.{◌≡◌, refl, sym, ap, ap₂, ◌∙◌}
-use mathlib.Core.Bool.{Bool, true, false, not, ◌&&◌, true≢false}
+use mathlib.Core.Bool.{Bool, true, false, not, ◌&&◌, ◌||◌, true≢false}
 use mathlib.Core.List.{List, ◌∷◌}
 use Prim.Native.Nat.{ℕ, zero, suc, ◌<◌, ◌^◌}
+use native.Mathlib.Omega.{arith}
 use borrow.Author.Tests.{eq-eqb, ne_eqb}
 use lib.Bits.{bit_and, bit_xor, and_lt, xor_lt}
 use lib.Dec.{eqb}
 use lib.ListN.{length, length-map}
 use lib.Pow.{pow-lt}
+use Rattle.std.specs.Prelude.{None, Option, Some}
 use Rattle.constraint.specs.Lists.{broken_record}
 use Rattle.constraint.specs.Meaning.{among}
 use Rattle.constraint.specs.Ticks.{any, bits}
-use Rattle.constraint.specs.declared.Broken.TheVariants.{Nowhere}
 use Rattle.constraint.specs.declared.Clocks.{Clocks}
 use Rattle.constraint.specs.declared.Constraint.{Constraint}
 use Rattle.constraint.proofs.Booleans.{and_l, and_r}
 use Rattle.constraint.proofs.TickSets.{bits_zero, bits_below}
 use Rattle.order.specs.Order.{rests_on, definitions}
 use Rattle.order.specs.Rests.{Links, ready, lowest_ready, without, and_then, in_turns, order}
-use Rattle.order.specs.Rows.{gathered, clocks_in, lowest_of, ready_among, clocks_left, goes_on, turns_of}
+use Rattle.std.specs.List.{find}
+use Rattle.order.specs.Rows.{gathered, clocks_in, ready_among, clocks_left, goes_on, turns_of}
 use Rattle.order.specs.declared.Defined.{Defined}
-use Rattle.order.specs.declared.Found.{Found}
-use Rattle.order.specs.declared.Found.TheVariants.{Nothing, Is}
-use Rattle.order.proofs.BitLaws.{bits_and, bits_without, bits_ticks, ticks_below, no_clock_lem}
+use Rattle.order.proofs.BitLaws.{bits_and, bits_without, bits_fold, fold_below, no_clock_lem}
 use Rattle.order.proofs.Gathered.{In, found, stands, clock_below, eqb_same, operands_below, rests_bits}
 use Rattle.order.proofs.GatherLaws.{gathered_numbers}
 use Rattle.order.proofs.LowestLaws.{told, kept, all_kept, some_kept, kept_some, without_kept, lowest_told, lowest_found}
@@ -31,7 +31,7 @@ abbrev is_left : (left : ℕ) → Defined → Bool
 is_left left d = bits left d.clock
 
 -- ---- where 59 lets the list pass
-module _ (clocks : Clocks) (rs : List Constraint) (ok : broken_record clocks rs ≡ Nowhere) where
+module _ (clocks : Clocks) (rs : List Constraint) (ok : broken_record clocks rs ≡ None) where
   abbrev ts : List Defined
   ts = gathered 1 rs
 
@@ -90,15 +90,15 @@ module _ (clocks : Clocks) (rs : List Constraint) (ok : broken_record clocks rs 
   turns : (n left : ℕ) → Left left → turns_of n left ts ≡ in_turns R n (numbers_left left)
   unfolding turns_of in_turns goes_on and_then
   turns zero left l = refl
-  turns (suc n) left l = go (lowest_of (ready_among left) ts) refl (turns n) ∙ ap (λ x. and_then x (λ i. in_turns R n (without i (numbers_left left)))) lowest_same
+  turns (suc n) left l = go (find (ready_among left) ts) refl (turns n) ∙ ap (λ x. and_then x (λ i. in_turns R n (without i (numbers_left left)))) lowest_same
     where
-      lowest_same : told (lowest_of (ready_among left) ts) ≡ lowest_ready R (numbers_left left)
+      lowest_same : told (find (ready_among left) ts) ≡ lowest_ready R (numbers_left left)
       lowest_same = lowest_told (is_left left) (λ d. eqb (bit_and d.operands left) 0) (ready R (numbers_left left)) ts (ready_same left l)
 
-      go : (x : Found) → lowest_of (ready_among left) ts ≡ x → ((f : ℕ) → Left f → turns_of n f ts ≡ in_turns R n (numbers_left f))
+      go : (x : Option Defined) → find (ready_among left) ts ≡ x → ((f : ℕ) → Left f → turns_of n f ts ≡ in_turns R n (numbers_left f))
           → goes_on x (λ d. turns_of n (bit_xor left (2 ^ d.clock)) ts) ≡ and_then (told x) (λ i. in_turns R n (without i (numbers_left left)))
-      go Nothing q ih = refl
-      go (Is d) q ih =
+      go None q ih = refl
+      go (Some d) q ih =
           let (m, p) = lowest_found (ready_among left) ts d q in
           let was = and_l _ _ p in
           ap (λ (xs : List ℕ). d.number ∷ xs) (ih (bit_xor left (2 ^ d.clock)) (still_left left l d m was) ∙ ap (in_turns R n) (sym (without_same left l d m was)))
@@ -106,10 +106,10 @@ module _ (clocks : Clocks) (rs : List Constraint) (ok : broken_record clocks rs 
   -- ---- from the start
 
   all_left : (c : ℕ) → c < 32 → bits (clocks_left ts) c ≡ among c (clocks_in ts)
-  all_left c h = bits_ticks (clocks_in ts) c h
+  all_left c h = bits_fold ts 0 c h ∙ ap (λ F. F c || among c (clocks_in ts)) bits_zero
 
   first_below : clocks_left ts < 2 ^ 32
-  first_below = ticks_below (clocks_in ts)
+  first_below = fold_below ts 0 (omega arith)
 
   first_left : Left (clocks_left ts)
   first_left = record { below = first_below; some = λ c q. sym (all_left c (bits_below (clocks_left ts) 32 first_below c q)) ∙ q }

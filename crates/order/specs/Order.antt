@@ -1,24 +1,21 @@
 -- The definitions of a list of records in working order: document 02, M-102. Assumes nothing.
-use Rattle.std.specs.Prelude.{◌≡◌, refl, ◌↔◌, List, [], ◌∷◌, ◌++◌, map, ℕ, zero, suc, ◌≤◌, length, replicate}
+use Rattle.std.specs.Prelude.{◌≡◌, refl, ◌↔◌, List, [], ◌∷◌, ◌++◌, map, ℕ, zero, suc, ◌-◌, ◌≤◌, length, replicate, Option, None, Some, Result, Ok, Err}
 use Rattle.limit.specs.Limit.{number_of}
-use Rattle.limit.specs.declared.Check.{Check}
-use Rattle.limit.specs.declared.Check.TheVariants.{Passed, Refused}
 use Rattle.limit.specs.declared.Limit.{Limit}
 use Rattle.limit.specs.declared.Limit.TheVariants.{Records, Circle}
 use Rattle.limit.specs.declared.Place.{Place}
+use Rattle.limit.specs.declared.Refusal.{Refusal}
 use Rattle.constraint.specs.Lists.{counting, empty, broken_record}
 use Rattle.constraint.specs.Meaning.{defined_of, used_of, among}
 use Rattle.constraint.specs.SamePlace.{record_at}
 use Rattle.constraint.specs.Ticks.{any}
-use Rattle.constraint.specs.declared.Broken.{Broken}
-use Rattle.constraint.specs.declared.Broken.TheVariants.{Nowhere, At}
 use Rattle.constraint.specs.declared.Clocks.{Clocks}
 use Rattle.constraint.specs.declared.Constraint.{Constraint}
 use Rattle.constraint.specs.declared.Definition.TheVariants.{Union, Await}
 use Rattle.constraint.specs.declared.Kind.TheVariants.{Relates, Defines}
 use Rattle.constraint.specs.declared.Relation.TheVariants.{Precedes}
 use Rattle.order.specs.Rests.{Links, Lowest, nothing, is, in_turns, and_then, order, closed, circle, SomeOrder, Ordered, LowestOnCircle}
-use Rattle.order.specs.declared.DefinitionOrder.{DefinitionOrder}
+use Rattle.arrayvec.specs.ArrayVec.{ArrayVec}
 
 -- ---- what is listed, and what rests on what
 
@@ -45,22 +42,20 @@ pub data OrderSaid : Type 0 where
   listed : OrderSaid
   refused : (number place : ℕ) → OrderSaid
 
-abbrev pub order_said : Check → OrderSaid
-order_said Passed = listed
-order_said (Refused r) = refused (number_of r.limit) r.place.0
-
--- the claim: no two values of the answer in code have one meaning
-abbrev pub OrderSaidDetermines : Type 0
-OrderSaidDetermines = (x y : Check) → order_said x ≡ order_said y → x ≡ y
-
 -- how many records are listed, and their numbers, in 32 places
 pub record OrderTold : Type 0 where
   pub said : OrderSaid
   pub count : ℕ
   pub records : List ℕ
 
-abbrev pub order_told : DefinitionOrder → OrderTold
-order_told o = record { said = order_said o.outcome; count = o.count; records = o.records }
+-- of a list, 0 stands behind the last
+abbrev pub order_told : Result (ArrayVec ℕ) Refusal → OrderTold
+order_told (Ok o) = record { said = listed; count = length o.items; records = o.items ++ replicate (32 - length o.items) 0 }
+order_told (Err r) = record { said = refused (number_of r.limit) r.place.0; count = 0; records = replicate 32 0 }
+
+-- the claim: no two values of the answer in code have one meaning
+abbrev pub OrderSaidDetermines : Type 0
+OrderSaidDetermines = (x y : Result (ArrayVec ℕ) Refusal) → order_told x ≡ order_told y → x ≡ y
 
 -- numbers in so many places, 0 in those behind the last
 abbrev pub places : ℕ → List ℕ → List ℕ
@@ -78,10 +73,10 @@ refusing l p = record { said = refused (number_of l) p; count = 0; records = rep
 -- ---- "21 exactly when no such order exists, its place the lowest record lying on a circle; it … comes after 59"; else the definitions in working
 -- order
 
-abbrev pub order_at : Broken → Lowest → List ℕ → OrderTold
-order_at (At p) c xs = refusing Records p.0
-order_at Nowhere (is p) xs = refusing Circle p
-order_at Nowhere nothing xs = listing xs
+abbrev pub order_at : Option Place → Lowest → List ℕ → OrderTold
+order_at (Some p) c xs = refusing Records p.0
+order_at None (is p) xs = refusing Circle p
+order_at None nothing xs = listing xs
 
 unfoldable pub order_of : Clocks → List Constraint → OrderTold
 order_of clocks rs = order_at (broken_record clocks rs) (circle (rests_on rs) (definitions rs)) (order (rests_on rs) (definitions rs))
@@ -90,8 +85,8 @@ order_of clocks rs = order_at (broken_record clocks rs) (circle (rests_on rs) (d
 
 -- when it is refused: 59; 21 where no order exists, at the lowest record that lies on a circle
 pub data OrderRefuses (clocks : Clocks) (rs : List Constraint) : (number place : ℕ) → Type 0 where
-  by_records : {p : Place} → broken_record clocks rs ≡ At p → OrderRefuses clocks rs (number_of Records) p.0
-  by_circle : {p : ℕ} → broken_record clocks rs ≡ Nowhere → (SomeOrder (rests_on rs) (definitions rs) → ⊥) → LowestOnCircle (rests_on rs) p → OrderRefuses clocks rs (number_of Circle) p
+  by_records : {p : Place} → broken_record clocks rs ≡ Some p → OrderRefuses clocks rs (number_of Records) p.0
+  by_circle : {p : ℕ} → broken_record clocks rs ≡ None → (SomeOrder (rests_on rs) (definitions rs) → ⊥) → LowestOnCircle (rests_on rs) p → OrderRefuses clocks rs (number_of Circle) p
 
 pub record WorkingOrder (clocks : Clocks) (rs : List Constraint) : Type 0 where
   -- exactly then, with that number and place, and the list is empty
@@ -99,7 +94,7 @@ pub record WorkingOrder (clocks : Clocks) (rs : List Constraint) : Type 0 where
   pub empties : (n p : ℕ) → (order_of clocks rs).said ≡ refused n p → ((order_of clocks rs).count ≡ 0) × ((order_of clocks rs).records ≡ replicate 32 0)
   -- listed exactly when 59 lets the records pass and an order exists; the list is then the one with the lowest ready record each time, of which
   -- there is no other, and it has room in the 32 places
-  pub lists : (order_of clocks rs).said ≡ listed ↔ (broken_record clocks rs ≡ Nowhere) × SomeOrder (rests_on rs) (definitions rs)
+  pub lists : (order_of clocks rs).said ≡ listed ↔ (broken_record clocks rs ≡ None) × SomeOrder (rests_on rs) (definitions rs)
   pub works : (order_of clocks rs).said ≡ listed → (xs : List ℕ) × Ordered (rests_on rs) (definitions rs) xs × (order_of clocks rs ≡ listing xs) × (length xs ≤ 32)
   pub only : (xs ys : List ℕ) → Ordered (rests_on rs) (definitions rs) xs → Ordered (rests_on rs) (definitions rs) ys → xs ≡ ys
 
@@ -109,13 +104,13 @@ EveryWorkingOrder = (clocks : Clocks) (rs : List Constraint) → WorkingOrder cl
 -- ---- worked examples
 
 abbrev union : (c a b : ℕ) → Constraint
-union c a b = record { kind = Defines Union; defined = c; first = a; second = b; parameter = record { 0 = 0 }; line = record { 0 = 0 } }
+union c a b = record { kind = Defines Union; defined = c; first = a; second = b; line = record { 0 = 0 } }
 
 abbrev precedes : (a b : ℕ) → Constraint
-precedes a b = record { kind = Relates Precedes; defined = 0; first = a; second = b; parameter = record { 0 = 0 }; line = record { 0 = 0 } }
+precedes a b = record { kind = Relates Precedes; defined = 0; first = a; second = b; line = record { 0 = 0 } }
 
 abbrev awaits : (c a b : ℕ) → Constraint
-awaits c a b = record { kind = Defines Await; defined = c; first = a; second = b; parameter = record { 0 = 1 }; line = record { 0 = 0 } }
+awaits c a b = record { kind = Defines (Await 1); defined = c; first = a; second = b; line = record { 0 = 0 } }
 
 -- 1 rests on 2, and 3 is free
 two_one_three : order_of (counting 6) (union 0 1 2 ∷ union 1 2 3 ∷ union 4 2 5 ∷ []) ≡ listing (2 ∷ 1 ∷ 3 ∷ [])

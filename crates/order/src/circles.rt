@@ -1,74 +1,77 @@
 // Circles of definitions: the links between clocks, from a clock to the operands of its definition, are closed clock by clock.
-ghost use Rattle.std.specs.Prelude.{◌≡◌, ◌<◌};
-ghost use Rattle.order.specs.Rows.{Sound, list_of, lowest_of, rows_of, row_through, rows_through, closed_from, on_circle};
+ghost use Rattle.std.specs.Prelude.{◌≡◌, ◌<◌, true};
+ghost use Rattle.constraint.specs.Meaning.{all_below};
+ghost use Rattle.std.specs.List.{find};
+ghost use Rattle.std.specs.Option.{option_copied};
+ghost use Rattle.order.specs.Rows.{clocks_in, rows_of, row_through, rows_through, closed_from, on_circle};
 
-use super::{Definitions, Found};
-use constraint::ticks;
+use super::Defined;
+use constraint::TickSet;
 
 // The links: row c has the operands of the definition of clock c.
-fn rows_of(definitions: Definitions) -> [u32; 32]
-    requires { Sound definitions }
-    ensures { result ≡ rows_of (list_of definitions) }
+fn rows_of(definitions: &[Defined]) -> [TickSet; 32]
+    requires { all_below 32 (clocks_in definitions.now) ≡ true }
+    ensures { result ≡ rows_of definitions.now }
 {
-    let mut rows: [u32; 32] = [0; 32];
-    let mut i: usize = 0;
-    while i < definitions.count {
-        let next = definitions.list[i];
-        rows[next.clock as usize] = next.operands;
-        i += 1;
+    let mut rows = [TickSet::EMPTY; 32];
+    for definition in definitions {
+        rows[definition.clock as usize] = definition.operands;
     }
     rows
 }
 
 // A row, and what clock k leads to if the row has k.
-fn row_through(k: u8, by: u32, row: u32) -> u32
+fn row_through(k: u8, by: TickSet, row: TickSet) -> TickSet
     ensures { result ≡ row_through k by row }
 {
-    if ticks(row, k) { row | by } else { row }
+    if row.contains(k) {
+        TickSet::from_bits(row.bits() | by.bits())
+    } else {
+        row
+    }
 }
 
-// The links, and those that go by clock k.
-fn through(k: u8, rows: [u32; 32]) -> [u32; 32]
+// Adds to the links those that go by clock k.
+fn through(k: u8, rows: &mut [TickSet; 32])
     requires { k < 32 }
-    ensures { result ≡ rows_through k rows }
+    ensures { rows.new ≡ rows_through k rows.old }
 {
     let by = rows[k as usize];
-    let mut closed: [u32; 32] = [0; 32];
-    let mut i: usize = 0;
-    while i < 32 {
-        closed[i] = row_through(k, by, rows[i]);
-        i += 1;
+    for row in rows {
+        *row = row_through(k, by, *row);
     }
-    closed
 }
 
-// The links, and those that go by any clocks.
-fn close(rows: [u32; 32]) -> [u32; 32]
-    ensures { result ≡ closed_from 32 0 rows }
+// Adds to the links those that go by any clocks.
+#[tactic(auto, using(crate::proofs::Closing::closed_on, crate::proofs::Closing::closed_done))]
+fn close(rows: &mut [TickSet; 32])
+    ensures { rows.new ≡ closed_from 32 0 rows.old }
 {
-    let mut closed = rows;
-    let mut k: u8 = 0;
-    while k < 32 {
-        let next = through(k, closed);
-        closed = next;
-        k += 1;
+    for k in 0..32 {
+        through(k, rows);
     }
-    closed
+}
+
+impl Defined {
+    // Whether the clock leads back to itself.
+    fn leads_back(&self, rows: &[TickSet; 32]) -> bool
+        ensures { result ≡ on_circle rows.now self.now }
+    {
+        match rows.get(self.clock as usize) {
+            Some(row) => row.contains(self.clock),
+            None => false,
+        }
+    }
 }
 
 // The lowest definition whose clock leads back to itself.
-pub fn lowest_on_circle(definitions: Definitions) -> Found
-    requires { Sound definitions }
-    ensures { result ≡ lowest_of (on_circle (closed_from 32 0 (rows_of (list_of definitions)))) (list_of definitions) }
+pub fn lowest_on_circle(definitions: &[Defined]) -> Option<&Defined>
+    requires { all_below 32 (clocks_in definitions.now) ≡ true }
+    ensures { option_copied result ≡ find (on_circle (closed_from 32 0 (rows_of definitions.now))) definitions.now }
 {
-    let rows = close(rows_of(definitions));
-    let mut i: usize = 0;
-    while i < definitions.count {
-        let next = definitions.list[i];
-        if ticks(rows[next.clock as usize], next.clock) {
-            return Found::Is(next);
-        }
-        i += 1;
-    }
-    Found::Nothing
+    let mut rows = rows_of(definitions);
+    close(&mut rows);
+    definitions
+        .iter()
+        .find(|definition| definition.leads_back(&rows))
 }

@@ -6,66 +6,47 @@ mod gathering;
 mod listing;
 
 ghost use Rattle.std.specs.Prelude.{◌≡◌};
-ghost use Rattle.constraint.specs.Lists.{slots};
-ghost use Rattle.order.specs.Order.{order_told, order_of, refusing};
+ghost use Rattle.order.specs.Order.{order_told, order_of};
 
+use arrayvec::ArrayVec;
 use circles::lowest_on_circle;
-use constraint::{Broken, Clocks, Constraint};
+use constraint::{Clocks, Constraint, TickSet, broken_record};
 use gathering::gather;
-use limit::{Check, Limit, Place, Refusal};
+use limit::{Limit, Place, Refusal};
 use listing::in_turns;
 
 // A definition record: its number, from 1, the clock that it defines, and the set of its operands.
-#[derive(Clone, Copy)]
+#[derive(Clone, Copy, Debug, PartialEq, Eq)]
 struct Defined {
-    pub number: usize,
-    pub clock: u8,
-    pub operands: u32,
+    number: usize,
+    clock: u8,
+    operands: TickSet,
 }
 
-// The definition records of a list, as they stand in it.
-#[derive(Clone, Copy)]
-struct Definitions {
-    pub list: [Defined; 32],
-    pub count: usize,
+// What stands in a place that is not used.
+impl Default for Defined {
+    fn default() -> Self {
+        Defined {
+            number: 0,
+            clock: 0,
+            operands: TickSet::EMPTY,
+        }
+    }
 }
 
-// The lowest definition record that passes a test, if there is one.
-#[derive(Clone, Copy)]
-enum Found {
-    Nothing,
-    Is(Defined),
-}
-
-// The definition records in working order, by their numbers, and 0 behind the last; or a refusal, and none.
-#[derive(Clone, Copy)]
-pub struct DefinitionOrder {
-    pub outcome: Check,
-    pub records: [usize; 32],
-    pub count: usize,
-}
-
-// A refusal, with an empty list.
-fn refuse(limit: Limit, place: Place) -> DefinitionOrder
-    ensures { order_told result ≡ refusing limit place.0 }
+// The definitions of the records in working order, by their numbers: each comes after those of its operands, the lowest that is ready each time.
+pub fn definition_order(
+    records: &[Constraint],
+    clocks: Clocks,
+) -> Result<ArrayVec<usize, 32>, Refusal>
+    ensures { order_told result ≡ order_of clocks records.now }
 {
-    DefinitionOrder {
-        outcome: Check::Refused(Refusal { limit, place }),
-        records: [0; 32],
-        count: 0,
+    if let Some(place) = broken_record(records, clocks) {
+        return Err(Limit::Records.at(place));
     }
-}
-
-// The definitions of the first count records in working order: each comes after those of its operands, the lowest that is ready each time.
-pub fn definition_order(records: [Constraint; 64], count: usize, clocks: Clocks) -> DefinitionOrder
-    ensures { order_told result ≡ order_of clocks (slots count records) }
-{
-    if let Broken::At(place) = constraint::broken_record(records, count, clocks) {
-        return refuse(Limit::Records, place);
+    let definitions = gather(records);
+    if let Some(lowest) = lowest_on_circle(&definitions) {
+        return Err(Limit::Circle.at(Place(lowest.number)));
     }
-    let definitions = gather(records, count);
-    if let Found::Is(lowest) = lowest_on_circle(definitions) {
-        return refuse(Limit::Circle, Place(lowest.number));
-    }
-    in_turns(definitions)
+    Ok(in_turns(&definitions))
 }

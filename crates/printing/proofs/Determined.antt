@@ -1,6 +1,6 @@
 -- The text determines what was told: its words have no parting byte, so that a line has one reading as words, and the digits say the number.
 -- Assumes nothing.
-use Prim.Native.Nat.{ℕ, suc, ◌+◌, ◌%◌, ◌≤◌}
+use Prim.Native.Nat.{ℕ, suc, ◌+◌, ◌≤◌}
 use mathlib.Core.Path.{◌≡◌, refl, sym, ap, ◌∙◌}
 use mathlib.Core.List.{List, [], ◌∷◌, ◌++◌, map, append_assoc}
 use mathlib.Core.Bool.{true, false, false≢true, and-eq-true_iff}
@@ -8,8 +8,7 @@ use native.Mathlib.Omega.{arith}
 use borrow.Author.Tests.{le-leb, leb-true}
 use lib.Dec.{leb}
 use lib.IntN.{ℤ, pos, negsuc}
-use Rattle.constraint.specs.Meaning.{word}
-use Rattle.constraint.specs.Pairs.{first_of, second_of}
+use Rattle.constraint.specs.Pairs.{paired}
 use Rattle.constraint.specs.declared.Word.{Word}
 use Rattle.run.specs.Run.{Said, accepted, violated, refused}
 use Rattle.text.specs.Ascii.{ascii}
@@ -112,25 +111,15 @@ signed_solid : (z : ℤ) → Solid (signed z)
 signed_solid (pos n) = digits_solid n
 signed_solid (negsuc n) = unfold all_bytes in digits_solid (suc n)
 
--- two words are those of one part
-pair_once : (x y : ℤ) → first_of x ≡ first_of y → second_of x ≡ second_of y → x ≡ y
-pair_once (pos m) (pos n) e f =
-    let q : m % 4294967296 ≡ n % 4294967296 = cc in
-    let r : m ≡ n = omega (arith, f) in
-    ap pos r
-pair_once (pos m) (negsuc n) e f = cc
-pair_once (negsuc m) (pos n) e f = cc
-pair_once (negsuc m) (negsuc n) e f = e
-
 both_once : (l m : List Word) → both l ≡ both m → l ≡ m
 both_once [] [] e = refl
 both_once [] (w ∷ m) e = cc
 both_once (v ∷ l) [] e = cc
 both_once (v ∷ l) (w ∷ m) e =
-    let p : first_of v.0 ≡ first_of w.0 = cc in
-    let q : second_of v.0 ≡ second_of w.0 = cc in
+    let p : v.first ≡ w.first = cc in
+    let q : v.second ≡ w.second = cc in
     let r : both l ≡ both m = cc in
-    λ i. ap word (pair_once v.0 w.0 p q) i ∷ both_once l m r i
+    λ i. paired (p i) (q i) ∷ both_once l m r i
 
 -- ---- the verdict as its first word and its numbers
 

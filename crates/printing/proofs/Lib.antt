@@ -1,4 +1,3 @@
 pub mod DecimalLaws
 pub mod Determined
 pub mod PrintedLaws
-pub mod PutLaws

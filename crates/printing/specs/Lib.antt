@@ -1,4 +1,3 @@
 pub mod Decimal
 pub mod Determined
 pub mod Printed
-pub mod Put

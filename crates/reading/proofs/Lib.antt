@@ -1,4 +1,3 @@
-pub mod FewSteps
 pub mod FillingLaws
 pub mod RecordedLaws
 pub mod StoreLaws

@@ -1,7 +1,8 @@
 -- What reading gives of a table and a recording, with nothing judged: how it ended, and the steps that were closed before, each with its time, the
 -- offset of its mark and its tick set (document 01, "Recording"; document 02, M-103). Assumes nothing.
-use Rattle.std.specs.Prelude.{◌≡◌, refl, Bool, true, false, cond, ◌||◌, List, [], ◌∷◌, map, ℕ, ltb, length}
+use Rattle.std.specs.Prelude.{◌≡◌, refl, Bool, true, false, cond, ◌||◌, List, [], ◌∷◌, map, ℕ, ltb, length, Result, Ok, Err}
 use Rattle.limit.specs.Limit.{number_of}
+use Rattle.limit.specs.declared.Refusal.{Refusal}
 use Rattle.table.specs.Reader as table
 use Rattle.recording.specs.Body.{Ending, ended, refused_at, Reading}
 use Rattle.recording.specs.declared.Step.{Step}
@@ -9,6 +10,7 @@ use Rattle.recording.specs.declared.UnknownNames.{UnknownNames}
 use Rattle.run.specs.Complete.{mark}
 use Rattle.run.specs.Run.{recorded_by}
 use Rattle.reading.specs.Written.{written}
+use Rattle.reading.specs.declared.NoRoom.{NoRoom}
 use Rattle.reading.specs.declared.RecordingRead.{RecordingRead}
 
 -- how reading ended: `read`, or `refused` with number and place, as a table's reader says it
@@ -43,8 +45,13 @@ pub record Left : Type 0 where
   pub marks : List ℕ
   pub ticks : List ℕ
 
-abbrev pub left : RecordingRead → (times marks ticks : List ℕ) → Left
-left q ts ms fs = record { room = q.room; said = table.said q.outcome; count = q.steps; times = ts; marks = ms; ticks = fs }
+-- where there is no room nothing is read, and nothing written
+abbrev pub untouched : (times marks ticks : List ℕ) → Left
+untouched ts ms fs = record { room = false; said = table.read; count = 0; times = ts; marks = ms; ticks = fs }
+
+abbrev pub left : Result RecordingRead NoRoom → (times marks ticks : List ℕ) → Left
+left (Ok q) ts ms fs = record { room = true; said = table.said q.outcome; count = q.steps; times = ts; marks = ms; ticks = fs }
+left (Err n) ts ms fs = untouched ts ms fs
 
 abbrev pub time_of : Step → ℕ
 time_of s = s.time.0
@@ -69,10 +76,6 @@ filled g ts ms fs = record {
 -- some list has fewer places than the recording has bytes
 abbrev pub too_short : (recording times marks ticks : List ℕ) → Bool
 too_short r ts ms fs = ltb (length ts) (length r) || ltb (length ms) (length r) || ltb (length fs) (length r)
-
--- then nothing is read, and nothing written
-abbrev pub untouched : (times marks ticks : List ℕ) → Left
-untouched ts ms fs = record { room = false; said = table.read; count = 0; times = ts; marks = ms; ticks = fs }
 
 unfoldable pub recorded_into : (table recording : List ℕ) → UnknownNames → (times marks ticks : List ℕ) → Left
 recorded_into t r u ts ms fs = cond (too_short r ts ms fs) (untouched ts ms fs) (filled (recorded_of t r u) ts ms fs)

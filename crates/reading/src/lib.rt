@@ -3,14 +3,16 @@
 
 mod steps;
 
-use limit::Check;
+use limit::Refusal;
 pub use steps::read_recording;
 
-// What reading a recording into lists answers: whether each list has as many places as the recording has bytes; how reading ended, the table's
-// refusal included; and how many steps were written. Where there is no such room nothing is read and nothing written.
-#[derive(Clone, Copy)]
+// What reading a recording into lists answers: how reading ended, the table's refusal included; and how many steps were written.
+#[derive(Clone, Copy, Debug, PartialEq, Eq)]
 pub struct RecordingRead {
-    pub room: bool,
-    pub outcome: Check,
+    pub outcome: Result<(), Refusal>,
     pub steps: usize,
 }
+
+// Some list has fewer places than the recording has bytes: nothing is read, and nothing is written.
+#[derive(Clone, Copy, Debug, PartialEq, Eq)]
+pub struct NoRoom;

@@ -1,222 +1,198 @@
-// What the calls answer. Behind a step stand the words of which a part is not 0, as place and word.
-use super::read::{
-    clock_of, clocks, configuration, count, every, first_slots, list, number, number_of, set,
-    set_of, slots,
+// The questions, and what the calls answer. Behind a step stand the words of which a part is not 0, as place and word.
+use super::line::{Line, SLOTS};
+use super::word::{byte_of, set_of};
+use console::Part;
+use constraint::{
+    Configuration, Constraint, Likeness, Seen, TickSet, Word, broken_record, broken_word,
 };
-use console::{say, say_number, say_refusal, say_word};
-use constraint::{Broken, Configuration, Constraint, SamePlace, Seen, Word};
-use judging::StepAnswer;
+use judging::Stopped;
 use lent::Monitor;
-use limit::{Check, Place};
-use std::io;
+use limit::Place;
+use std::{fmt, io, str};
+
+// What a line asks, by its first word.
+#[derive(Clone, Copy)]
+pub enum Question {
+    Step,
+    Advance,
+    SamePlace,
+    Rule,
+    Range,
+    Fits,
+    BrokenRecord,
+    BrokenWord,
+    WithTick,
+    Start,
+}
 
 // ` yes` or ` no`.
-fn say_answer(rt: &impl Print, yes: bool) -> io::Result<()> {
-    if yes {
-        say(rt, b" yes")
-    } else {
-        say(rt, b" no")
+fn yes_or_no(yes: bool) -> &'static str {
+    if yes { " yes" } else { " no" }
+}
+
+// The words of which a part is not 0, each behind its place.
+#[derive(Clone, Copy)]
+struct Moved<'a>(&'a Configuration);
+
+impl<'a> fmt::Display for Moved<'a> {
+    fn fmt<W: fmt::Write>(&self, f: &mut fmt::Formatter<W>) -> fmt::Result {
+        for (i, word) in self.0.words.iter().enumerate() {
+            if word.first != 0 || word.second != 0 {
+                write!(f, " {}:{}", i + 1, Part(*word))?;
+            }
+        }
+        Ok(())
     }
 }
 
-// A place, behind a label.
-fn say_place(rt: &impl Print, label: &[u8], place: Place) -> io::Result<()> {
-    say(rt, label)?;
-    say_number(rt, place.0 as u64)
-}
-
-// A word of which a part is not 0, behind its place.
-fn one_word(rt: &impl Print, configuration: Configuration, i: usize) -> io::Result<()> {
-    if 64 <= i {
-        return Ok(());
-    }
-    let w = configuration.words[i];
-    if constraint::magnitude(w.0) == 0 {
-        return Ok(());
-    }
-    say_place(rt, b" ", Place(i + 1))?;
-    say(rt, b":")?;
-    say_word(rt, w)
-}
-
-// The words of which a part is not 0.
-fn say_words(rt: &impl Print, configuration: Configuration) -> io::Result<()> {
-    let mut i: usize = 0;
-    while i < 64 {
-        one_word(rt, configuration, i)?;
-        i += 1;
-    }
-    Ok(())
-}
-
-fn say_step(rt: &impl Print, answer: StepAnswer) -> io::Result<()> {
-    say(rt, b" ")?;
-    match answer {
-        StepAnswer::Accepted => say(rt, b"accepted"),
-        StepAnswer::Violated(place) => say_place(rt, b"violated ", place),
-        StepAnswer::Refused(refusal) => say_refusal(rt, refusal),
+// The answer of a step, and the words after it.
+fn say_step(rt: &impl Print, stopped: Option<Stopped>, after: &Configuration) -> io::Result<()> {
+    match stopped {
+        None => print!(rt; " accepted{}", Moved(after)),
+        Some(Stopped::Violated(place)) => print!(rt; " violated {place}{}", Moved(after)),
+        Some(Stopped::Refused(refusal)) => print!(rt; " {refusal}{}", Moved(after)),
     }
 }
 
-// The monitor that the records start with.
-pub fn start(rt: &impl Print, line: &[u8]) -> io::Result<()> {
-    let started = lent::start_on(slots(line), count(line), clocks(line));
-    let outcome = started.outcome;
-    say(rt, b" ")?;
-    match outcome {
-        Check::Passed => say(rt, b"started")?,
-        Check::Refused(refusal) => say_refusal(rt, refusal)?,
-    }
-    say_words(rt, started.monitor.configuration)
-}
-
-// The single step.
-pub fn step(rt: &impl Print, line: &[u8]) -> io::Result<()> {
-    let stepped = lent::step_on(
-        slots(line),
-        count(line),
-        clocks(line),
-        configuration(line, b"words", b"used"),
-        set(line, b"step"),
-    );
-    let answer = stepped.answer;
-    say_step(rt, answer)?;
-    say_words(rt, stepped.configuration)
-}
-
-// The lent monitor, moved forward from where the words say that it stands.
-pub fn advance(rt: &impl Print, line: &[u8]) -> io::Result<()> {
-    let configuration = configuration(line, b"words", b"used");
-    let moved = lent::advance_on(
-        Monitor { configuration },
-        slots(line),
-        count(line),
-        clocks(line),
-        set(line, b"advance"),
-    );
-    let answer = moved.answer;
-    say_step(rt, answer)?;
-    say_words(rt, moved.monitor.configuration)
-}
-
-// The same-place question.
-pub fn same_place(rt: &impl Print, line: &[u8]) -> io::Result<()> {
-    let answer = lent::same_place_on(
-        slots(line),
-        count(line),
-        clocks(line),
-        configuration(line, b"words", b"used"),
-        configuration(line, b"second", b"second_used"),
-    );
-    say(rt, b" ")?;
-    match answer {
-        SamePlace::Same => say(rt, b"same"),
-        SamePlace::Different => say(rt, b"different"),
-        SamePlace::Refused(refusal) => say_refusal(rt, refusal),
+fn say_broken(rt: &impl Print, broken: Option<Place>) -> io::Result<()> {
+    match broken {
+        None => print!(rt; " passes"),
+        Some(place) => print!(rt; " {place}"),
     }
 }
 
 // A dot where the record does not allow a step with this tick set, else its word after it, past its million too.
-fn cell(rt: &impl Print, record: Constraint, w: Word, f: u32) -> io::Result<()> {
-    say(rt, b" ")?;
-    let seen = constraint::look(record, w, f);
-    match seen {
-        Seen::Out => say(rt, b"?"),
-        Seen::Fails => say(rt, b"."),
-        Seen::Leaves(v) => say_word(rt, v),
-        Seen::Moves(v) => say_word(rt, v),
+fn say_cell(rt: &impl Print, record: &Constraint, word: Word, ticks: TickSet) -> io::Result<()> {
+    match record.look(word, ticks) {
+        Seen::Out => print!(rt; " ?"),
+        Seen::Fails => print!(rt; " ."),
+        Seen::Leaves(after) | Seen::Moves(after) => print!(rt; " {}", Part(after)),
+    }
+}
+
+impl Question {
+    pub fn of(word: &[u8]) -> Option<Question> {
+        let question = match str::from_utf8(word).ok()? {
+            "step" => Question::Step,
+            "advance" => Question::Advance,
+            "same_place" => Question::SamePlace,
+            "rule" => Question::Rule,
+            "range" => Question::Range,
+            "fits" => Question::Fits,
+            "broken_record" => Question::BrokenRecord,
+            "broken_word" => Question::BrokenWord,
+            "with_tick" => Question::WithTick,
+            "start" => Question::Start,
+            _ => return None,
+        };
+        Some(question)
+    }
+
+    // Asks the call, and prints its answer.
+    pub fn ask<R: Print + AllocGlobal>(self, rt: &R, line: &Line<'_>) -> io::Result<()> {
+        match self {
+            Question::Step => step(rt, line),
+            Question::Advance => advance(rt, line),
+            Question::SamePlace => same_place(rt, line),
+            Question::Rule => rule(rt, line),
+            Question::Range => range(rt, line),
+            Question::Fits => fits(rt, line),
+            Question::BrokenRecord => {
+                let records = line.records(rt.alloc(), &SLOTS[..3])?;
+                say_broken(rt, broken_record(&records, line.clocks()))
+            }
+            Question::BrokenWord => {
+                let records = line.records(rt.alloc(), &SLOTS[..3])?;
+                say_broken(
+                    rt,
+                    broken_word(&records, &line.configuration("words", "used")),
+                )
+            }
+            Question::WithTick => with_tick(rt, line),
+            Question::Start => start(rt, line),
+        }
+    }
+}
+
+// The single step.
+fn step<R: Print + AllocGlobal>(rt: &R, line: &Line<'_>) -> io::Result<()> {
+    let records = line.records(rt.alloc(), &SLOTS)?;
+    let before = line.configuration("words", "used");
+    match lent::step(&records, line.clocks(), before, line.set("step")) {
+        Ok(after) => say_step(rt, None, &after),
+        Err(stopped) => say_step(rt, Some(stopped), &before),
+    }
+}
+
+// The lent monitor, moved forward from where the words say that it stands.
+fn advance<R: Print + AllocGlobal>(rt: &R, line: &Line<'_>) -> io::Result<()> {
+    let records = line.records(rt.alloc(), &SLOTS)?;
+    let mut monitor = Monitor {
+        configuration: line.configuration("words", "used"),
+    };
+    let stopped = monitor
+        .advance(&records, line.clocks(), line.set("advance"))
+        .err();
+    say_step(rt, stopped, &monitor.configuration)
+}
+
+// The same-place question.
+fn same_place<R: Print + AllocGlobal>(rt: &R, line: &Line<'_>) -> io::Result<()> {
+    let records = line.records(rt.alloc(), &SLOTS)?;
+    let first = line.configuration("words", "used");
+    let second = line.configuration("second", "second_used");
+    match lent::same_place(&records, line.clocks(), first, second) {
+        Ok(Likeness::Same) => print!(rt; " same"),
+        Ok(Likeness::Different) => print!(rt; " different"),
+        Err(refusal) => print!(rt; " {refusal}"),
+    }
+}
+
+// The monitor that the records start with.
+fn start<R: Print + AllocGlobal>(rt: &R, line: &Line<'_>) -> io::Result<()> {
+    let records = line.records(rt.alloc(), &SLOTS)?;
+    match Monitor::start(&records, line.clocks()) {
+        Ok(monitor) => print!(rt; " started{}", Moved(&monitor.configuration)),
+        Err(refusal) => print!(rt; " {refusal}"),
     }
 }
 
 // The record from the first word, on {}, {a}, {b}, {a, b}, {c}, {a, c}, {b, c}, {a, b, c}.
-pub fn rule(rt: &impl Print, line: &[u8]) -> io::Result<()> {
-    let record = every(line);
-    let configuration = configuration(line, b"words", b"used");
-    let w = configuration.words[0];
-    cell(rt, record, w, 0)?;
-    cell(rt, record, w, 1)?;
-    cell(rt, record, w, 2)?;
-    cell(rt, record, w, 3)?;
-    cell(rt, record, w, 4)?;
-    cell(rt, record, w, 5)?;
-    cell(rt, record, w, 6)?;
-    cell(rt, record, w, 7)
-}
-
-// Whether a word of a list is in a record's range.
-fn inside(rt: &impl Print, record: Constraint, all: Configuration, i: usize) -> io::Result<()> {
-    if 64 <= i {
-        return Ok(());
+fn rule(rt: &impl Print, line: &Line<'_>) -> io::Result<()> {
+    let record = line.every();
+    let word = line.configuration("words", "used").words[0];
+    for bits in 0..8 {
+        say_cell(rt, &record, word, TickSet::from_bits(bits))?;
     }
-    let w = all.words[i];
-    say_answer(rt, constraint::in_range(record, w))
+    Ok(())
 }
 
 // The start word of the record, and whether each of four words is in its range.
-pub fn range(rt: &impl Print, line: &[u8]) -> io::Result<()> {
-    let record = every(line);
-    let all = configuration(line, b"range", b"used");
-    say(rt, b" starts at ")?;
-    say_word(rt, constraint::start(record))?;
-    say(rt, b",")?;
-    inside(rt, record, all, 0)?;
-    inside(rt, record, all, 1)?;
-    inside(rt, record, all, 2)?;
-    inside(rt, record, all, 3)
+fn range(rt: &impl Print, line: &Line<'_>) -> io::Result<()> {
+    let record = line.every();
+    print!(rt; " starts at {},", Part(record.start()))?;
+    for word in &line.configuration("range", "used").words[..4] {
+        print!(rt; "{}", yes_or_no(record.is_in_range(*word)))?;
+    }
+    Ok(())
 }
 
 // Whether the record is well-formed, and whether it defines a clock.
-pub fn fits(rt: &impl Print, line: &[u8]) -> io::Result<()> {
-    let record = every(line);
-    let clock = clock_of(number(line, b"fits", 0));
-    let fitted = constraint::fit(clocks(line), 0, record);
-    say_answer(rt, fitted.fits)?;
-    say_answer(
-        rt,
-        constraint::defines_again(constraint::with_tick(0, clock), record),
-    )
-}
-
-fn say_broken(rt: &impl Print, broken: Broken) -> io::Result<()> {
-    match broken {
-        Broken::Nowhere => say(rt, b" passes"),
-        Broken::At(place) => say_place(rt, b" ", place),
-    }
-}
-
-// The lowest place at which the records break limit 59.
-pub fn broken_record(rt: &impl Print, line: &[u8]) -> io::Result<()> {
-    say_broken(
-        rt,
-        constraint::broken_record(first_slots(line), count(line), clocks(line)),
-    )
-}
-
-// The lowest place at which the words break limit 60.
-pub fn broken_word(rt: &impl Print, line: &[u8]) -> io::Result<()> {
-    say_broken(
-        rt,
-        constraint::broken_word(
-            first_slots(line),
-            count(line),
-            configuration(line, b"words", b"used"),
-        ),
-    )
-}
-
-// Whether a clock of a list is in a tick set.
-fn member(rt: &impl Print, set: u32, all: [i64; 64], i: usize) -> io::Result<()> {
-    say_answer(rt, constraint::ticks(set, clock_of(number_of(all, i))))
+fn fits(rt: &impl Print, line: &Line<'_>) -> io::Result<()> {
+    let record = line.every();
+    let fitted = record.fits_clocks(line.clocks(), TickSet::EMPTY);
+    let earlier = TickSet::EMPTY.with(line.clock("fits"));
+    print!(rt; "{}", yes_or_no(fitted.fits))?;
+    print!(rt; "{}", yes_or_no(record.defines_again(earlier)))
 }
 
 // A tick set with a clock put in, and whether each of four clocks is in it then.
-pub fn with_tick(rt: &impl Print, line: &[u8]) -> io::Result<()> {
-    let all = list(line, b"with_tick");
-    let set = constraint::with_tick(set_of(number_of(all, 0)), clock_of(number_of(all, 1)));
-    say(rt, b" ")?;
-    say_number(rt, set as u64)?;
-    member(rt, set, all, 2)?;
-    member(rt, set, all, 3)?;
-    member(rt, set, all, 4)?;
-    member(rt, set, all, 5)
+fn with_tick(rt: &impl Print, line: &Line<'_>) -> io::Result<()> {
+    let all = line.list("with_tick");
+    let set = set_of(all[0]).with(byte_of(all[1]));
+    print!(rt; " {}", set.bits())?;
+    for member in &all[2..6] {
+        print!(rt; "{}", yes_or_no(set.contains(byte_of(*member))))?;
+    }
+    Ok(())
 }

@@ -1,104 +1,164 @@
-// A line: a name, a colon, and what is asked.
-use super::ask;
-use super::read::{Item, find, item_of};
-use console::say;
-use std::io;
-use text::{Class, Span};
+// A line's words, and what stands behind those that name something: numbers, configurations and records.
+use super::ask::Question;
+use super::word::{Item, byte_of, item_of, kind_of, part_of, set_of};
+use constraint::{Clocks, Configuration, Constraint, Kind, TickSet};
+use limit::Place;
+use std::alloc::{AllocError, Global};
+use std::array;
+use text::{Class, Words};
 
-// Whether a word is a number, or one of those that a line may have.
-fn known_word(word: &[u8]) -> bool {
-    let Item::Other = item_of(word) else {
-        return true;
-    };
-    let found = find(
-        b"step advance same_place rule range fits broken_record broken_word with_tick start clocks named count words used second second_used every 1st 2nd 3rd 64th 66th empty = # isSubClockOf strictly_precedes precedes clockUnion clockInter lub glb await strictly_sampled sampled upto deferred",
-        word,
-    );
-    found.place != 0
+// The words that say what stands behind them, beside those of SLOTS.
+const KEYS: [&str; 8] = [
+    "clocks",
+    "named",
+    "count",
+    "words",
+    "used",
+    "second",
+    "second_used",
+    "every",
+];
+
+// The words in front of the record of one slot, with the slot's index. Limits 59 and 60 are asked with the first three alone.
+pub const SLOTS: [(&str, usize); 5] = [
+    ("1st", 0),
+    ("2nd", 1),
+    ("3rd", 2),
+    ("64th", 63),
+    ("66th", 65),
+];
+
+// Whether a word is one that a line may have.
+fn is_known(word: &[u8]) -> bool {
+    item_of(word).is_some()
+        || Question::of(word).is_some()
+        || kind_of(word, &[]).is_some()
+        || KEYS.iter().any(|key| key.as_bytes() == word)
+        || SLOTS.iter().any(|(key, _)| key.as_bytes() == word)
 }
 
-// Whether every word is.
-fn known(line: &[u8]) -> bool {
-    let mut at = 0;
-    while at < line.len() {
-        let word = text::next_word(Class::Space, line, at);
-        if !known_word(text::part(line, word)) {
-            return false;
+// The numbers in front of the first word that is none; each of the 64 that is left out is another number. An index, since dots go on with the last.
+fn numbers(words: &[&[u8]], other: i64) -> [i64; 64] {
+    let mut all = [other; 64];
+    let mut next = 0;
+    for word in words {
+        match item_of(word) {
+            Some(Item::Number(n)) => {
+                if let Some(place) = all.get_mut(next) {
+                    *place = n;
+                    next += 1;
+                }
+            }
+            Some(Item::Dots) => next = 63,
+            None => return all,
         }
-        at = word.end;
     }
-    true
+    all
 }
 
-// Asks what the first word says.
-fn asked(rt: &impl Print, line: &[u8]) -> io::Result<()> {
-    let word = text::next_word(Class::Space, line, 0);
-    let found = find(
-        b"step advance same_place rule range fits broken_record broken_word with_tick start",
-        text::part(line, word),
-    );
-    let question = found.place;
-    match question {
-        1 => ask::step(rt, line),
-        2 => ask::advance(rt, line),
-        3 => ask::same_place(rt, line),
-        4 => ask::rule(rt, line),
-        5 => ask::range(rt, line),
-        6 => ask::fits(rt, line),
-        7 => ask::broken_record(rt, line),
-        8 => ask::broken_word(rt, line),
-        9 => ask::with_tick(rt, line),
-        10 => ask::start(rt, line),
-        _ => say(rt, b" bad line"),
-    }
+// The words of a line behind its colon.
+#[derive(Drop)]
+pub struct Line<'a> {
+    pub words: Vec<&'a [u8]>,
 }
 
-// The answer behind a name.
-fn answer(rt: &impl Print, line: &[u8]) -> io::Result<()> {
-    say(rt, b":")?;
-    if known(line) {
-        asked(rt, line)?;
-    } else {
-        say(rt, b" bad line")?;
+impl<'a> Line<'a> {
+    pub fn of(alloc: Global, text: &'a [u8]) -> Result<Line<'a>, AllocError> {
+        let words = Words::new(Class::Space, text)
+            .map(|word| word.bytes)
+            .collect(alloc)?;
+        Ok(Line { words })
     }
-    say(rt, b"\n")
-}
 
-// A line. One without bytes, and one that starts with a minus sign, asks nothing. One without a colon is a bad line.
-fn line(rt: &impl Print, text: &[u8]) -> io::Result<()> {
-    if text.len() == 0 {
-        return Ok(());
+    // Whether every word is one that a line may have.
+    pub fn is_known(&self) -> bool {
+        self.words.iter().all(|word| is_known(word))
     }
-    if text[0] == 45 {
-        return Ok(());
-    }
-    let colon = find(text, b":");
-    let start = colon.end;
-    let mut end = start;
-    if 2 <= start {
-        end = start - 2;
-    }
-    say(rt, text::part(text, Span { start: 0, end }))?;
-    answer(
-        rt,
-        text::part(
-            text,
-            Span {
-                start,
-                end: text.len(),
-            },
-        ),
-    )
-}
 
-// Every line of a text.
-#[tactic(auto, using(text::proofs::Runs::run_from, text::proofs::Runs::run_within))]
-pub fn lines(rt: &impl Print, text: &[u8]) -> io::Result<()> {
-    let mut at = 0;
-    while at < text.len() {
-        let end = text::run_end(Class::Newline, false, text, at);
-        line(rt, &text[at..end])?;
-        at = end + 1;
+    // The words behind a word, if the line has it.
+    fn behind(&self, key: &str) -> Option<&[&'a [u8]]> {
+        let i = self.words.iter().position(|word| *word == key.as_bytes())?;
+        self.words.get(i + 1..)
     }
-    Ok(())
+
+    // The numbers behind a word; each that is left out, and all where the line lacks the word, is another number.
+    fn numbers(&self, key: &str, other: i64) -> [i64; 64] {
+        numbers(self.behind(key).unwrap_or(&[]), other)
+    }
+
+    // The numbers behind a word, 0 where they are left out.
+    pub fn list(&self, key: &str) -> [i64; 64] {
+        self.numbers(key, 0)
+    }
+
+    // The number behind a word; another one where the line lacks it.
+    fn number(&self, key: &str, other: i64) -> i64 {
+        self.numbers(key, other)[0]
+    }
+
+    // The number of a clock behind a word.
+    pub fn clock(&self, key: &str) -> u8 {
+        byte_of(self.number(key, 0))
+    }
+
+    // The tick set behind a word.
+    pub fn set(&self, key: &str) -> TickSet {
+        set_of(self.number(key, 0))
+    }
+
+    // The clock count, 3 where the line does not say it, and the named count, all of them where it does not say that.
+    pub fn clocks(&self) -> Clocks {
+        let count = byte_of(self.number("clocks", 3));
+        let named = byte_of(self.number("named", count as i64));
+        Clocks { named, count }
+    }
+
+    // The configuration whose first words stand behind a word, and its second words behind another.
+    pub fn configuration(&self, first: &str, second: &str) -> Configuration {
+        let firsts = self.list(first);
+        let seconds = self.list(second);
+        Configuration {
+            words: array::from_fn(|i| part_of(firsts[i], seconds[i])),
+        }
+    }
+
+    // The record behind a word: a form, and the numbers of a, b, c and n, or of a delay's list instead of n.
+    fn record(&self, key: &str) -> Option<Constraint> {
+        let words = self.behind(key)?;
+        let Some((form, words)) = words.split_first() else {
+            return Some(Constraint::EMPTY);
+        };
+        let all = numbers(words, 4_000_000_000);
+        Some(Constraint {
+            kind: kind_of(form, &all[3..]).unwrap_or(Kind::Empty),
+            defined: byte_of(all[2]),
+            first: byte_of(all[0]),
+            second: byte_of(all[1]),
+            line: Place(7),
+        })
+    }
+
+    // The record behind `every`; an empty one where the line lacks it.
+    pub fn every(&self) -> Constraint {
+        match self.record("every") {
+            Some(record) => record,
+            None => Constraint::EMPTY,
+        }
+    }
+
+    // As many records as the line counts, 1 where it does not say it: each the one behind `every`, but where the line says another.
+    pub fn records(
+        &self,
+        alloc: Global,
+        slots: &[(&str, usize)],
+    ) -> Result<Vec<Constraint>, AllocError> {
+        let count = self.number("count", 1).unsigned_abs().min(66) as usize;
+        let mut records = vec![in alloc; self.every(); count]?;
+        for (key, i) in slots {
+            if let (Some(slot), Some(record)) = (records.get_mut(*i), self.record(key)) {
+                *slot = record;
+            }
+        }
+        Ok(records)
+    }
 }

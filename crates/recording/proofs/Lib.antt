@@ -1,6 +1,7 @@
 pub mod BeforeWords
 pub mod BodyLaws
 pub mod Choices
+pub mod FewSteps
 pub mod HeaderLaws
 pub mod Marks
 pub mod StepTicks

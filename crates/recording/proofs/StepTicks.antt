@@ -1,32 +1,30 @@
 -- In every step that is read, only clocks of the table tick: its tick set is below 2 ^ n, where n is the table's clock count. A variable's
 -- clock is one of the table's, or that of no clock, and no tick of it is kept. Assumes nothing.
+use Rattle.std.specs.Prelude.{Option, Some, None, Result, Ok, Err}
 use mathlib.Core.Path.{◌≡◌}
 use mathlib.Core.Logic.{◌⊎◌, inl, inr}
-use mathlib.Core.Bool.{Bool, true, false, not, cond, ◌&&◌, ◌||◌}
+use mathlib.Core.Bool.{Bool, true, false, not, cond, ◌||◌}
 use mathlib.Core.List.{List, [], ◌∷◌, ◌++◌}
 use Prim.Native.Nat.{ℕ, ◌+◌, ◌^◌, ◌≤◌, ◌<◌}
-use native.Mathlib.Nat.{min-le_left}
 use native.Mathlib.Omega.{arith}
 use borrow.Author.Tests.{lt-ltb, le-ltb}
 use lib.Bits.{or_lt}
 use lib.Dec.{leb, ltb}
-use lib.ListN.{length, take, length-take}
+use lib.ListN.{length}
 use lib.Pow.{pow-lt, suc_ones}
 use Rattle.limit.specs.declared.Limit.{Limit}
-use Rattle.limit.specs.declared.Limit.TheVariants.{RecordingLength, RecordingByte, VariableShape, DeclaredTwice, VariableUnknown, VariableCount, BodyWord, MarkTime, ChangeBeforeMark, TickTwice}
+use Rattle.limit.specs.declared.Limit.TheVariants.{RecordingLength, RecordingByte, VariableShape, DeclaredTwice, VariableUnknown, VariableCount, BodyWord, MarkTime, TickTwice}
 use Rattle.constraint.specs.Ticks.{with_tick, bits}
 use Rattle.text.specs.Bytes.{same_bytes}
 use Rattle.text.specs.Digits.{read_decimal}
 use Rattle.text.specs.Split.{bytes_of}
-use Rattle.text.specs.declared.DecimalRead.{DecimalRead}
-use Rattle.text.specs.declared.DecimalRead.TheVariants.{NotDigit, TooLarge, Value}
+use Rattle.text.specs.declared.Spoilt.{Spoilt}
+use Rattle.text.specs.declared.Spoilt.TheVariants.{NotDigit, TooLarge}
 use Rattle.text.specs.declared.Span.{Span}
 use Rattle.grammar.specs.Grammar.{clock_of}
 use Rattle.grammar.specs.Names.{position}
-use Rattle.grammar.specs.declared.Found.{Found}
-use Rattle.grammar.specs.declared.Found.TheVariants.{At, Nothing}
 use Rattle.grammar.specs.declared.Names.{Names}
-use Rattle.recording.specs.Body.{opens_mark, is_value, unmarked, begin, ticking, time_turn, mark_turn, found_turn, variable_turn, change_turn, word_turn, Reading, closing, onward, body_steps, body_of, reading}
+use Rattle.recording.specs.Body.{opens_mark, is_value, begin, ticking, is_late, time_turn, mark_turn, found_turn, variable_turn, change_turn, word_turn, Reading, closing, onward, body_steps, body_of, reading}
 use Rattle.limit.specs.Checked.{Checked, passed, stopped, refuse_if, and_then}
 use Rattle.recording.specs.Header.{says, command_of, shaped, declare, Header, most_bytes, first_other, close, by_command, header, skipping, declaring, opened, words}
 use Rattle.recording.specs.Variables.{Variable, refuses_unknown, Naming, clock_named, with_id, look_up, is_declared, clock_again, all_declared}
@@ -45,19 +43,16 @@ unfolding position
 position_clock t w i [] = inr cc
 position_clock t w i (p ∷ ps) = go (same_bytes (bytes_of t p) w) (position_clock t w (i + 1) ps)
   where
-    go : (x : Bool) → Clock (i + 1 + length ps) (clock_of (position t w (i + 1) ps)) → Clock (i + length (p ∷ ps)) (clock_of (cond x (At i) (position t w (i + 1) ps)))
+    go : (x : Bool) → Clock (i + 1 + length ps) (clock_of (position t w (i + 1) ps)) → Clock (i + length (p ∷ ps)) (clock_of (cond x (Some i) (position t w (i + 1) ps)))
     go true h = inl (omega arith)
     go false (inl h) = inl (omega arith)
     go false (inr h) = inr h
 
-pub named_clock : (t : List ℕ) (ns : Names) (w : List ℕ) → Clock ns.count (clock_named t ns w)
-named_clock t ns w = go (position_clock t w 0 (take ns.count ns.spans))
+pub named_clock : (t : List ℕ) (ns : Names) (w : List ℕ) → Clock (length ns.spans) (clock_named t ns w)
+named_clock t ns w = go (position_clock t w 0 ns.spans)
   where
-    short : length (take ns.count ns.spans) ≤ ns.count
-    short = rw (length-take ns.count ns.spans) (min-le_left ns.count (length ns.spans))
-
-    go : Clock (0 + length (take ns.count ns.spans)) (clock_named t ns w) → Clock ns.count (clock_named t ns w)
-    go (inl h) = inl (omega (arith, short))
+    go : Clock (0 + length ns.spans) (clock_named t ns w) → Clock (length ns.spans) (clock_named t ns w)
+    go (inl h) = inl (omega arith)
     go (inr h) = inr h
 
 module _ (g : Naming) (room : g.count ≤ 32) where
@@ -75,23 +70,23 @@ module _ (g : Naming) (room : g.count ≤ 32) where
   one_more (x ∷ vs) v h k = (h.0, one_more vs v h.1 k)
 
   -- what was found is the clock of a variable
-  abbrev Found-clock : Found → Type 0
-  Found-clock (At k) = Clock n k
-  Found-clock Nothing = Unit {0}
+  abbrev Found-clock : Option ℕ → Type 0
+  Found-clock (Some k) = Clock n k
+  Found-clock None = Unit {0}
 
   with_clock : (w : List ℕ) (vs : List Variable) → Clocks vs → Found-clock (with_id vs w)
   unfolding with_id
   with_clock w [] h = tt
   with_clock w (v ∷ vs) h = go (same_bytes v.id w) (with_clock w vs h.1)
     where
-      go : (x : Bool) → Found-clock (with_id vs w) → Found-clock (cond x (At v.clock) (with_id vs w))
+      go : (x : Bool) → Found-clock (with_id vs w) → Found-clock (cond x (Some v.clock) (with_id vs w))
       go true k = h.0
       go false k = k
 
   look_clock : (w : List ℕ) (vs : List Variable) → Clocks vs → Found-clock (look_up vs w)
   look_clock w vs h = go (leb (length w) 4)
     where
-      go : (x : Bool) → Found-clock (cond x (with_id vs w) Nothing)
+      go : (x : Bool) → Found-clock (cond x (with_id vs w) None)
       go true = with_clock w vs h
       go false = tt
 
@@ -175,38 +170,44 @@ module _ (g : Naming) (room : g.count ≤ 32) where
   with_tick_below f k h (inl e) = rw (lt-ltb k 32 (omega arith)) (or_lt n f (2 ^ k) h (pow-lt e))
   with_tick_below f k h (inr e) = rw (le-ltb k 32 (omega arith)) h
 
-  found_ticking : (o : Step) (at : ℕ) (x : Found) → Ticking o → Found-clock x → Each Ticking (found_turn o at x)
-  found_ticking o at Nothing h k = tt
-  found_ticking o at (At k) h e = unless_broken Ticking (bits o.ticks k) TickTwice at (passed (ticking k o)) (with_tick_below o.ticks k h e)
+  found_ticking : (o : Step) (at : ℕ) (x : Option ℕ) → Ticking o → Found-clock x → Each Ticking (found_turn o at x)
+  found_ticking o at None h k = tt
+  found_ticking o at (Some k) h e = unless_broken Ticking (bits o.ticks k) TickTwice at (passed (ticking k o)) (with_tick_below o.ticks k h e)
 
   zero_below : 0 < 2 ^ n
   zero_below = omega (arith, suc_ones n)
 
-  time_ticking : (o : Step) (at : ℕ) (d : DecimalRead) → Each Ticking (time_turn o at d)
-  time_ticking o at (NotDigit i) = tt
-  time_ticking o at (TooLarge i) = tt
-  time_ticking o at (Value t) = unless_broken Ticking (o.begun && leb t o.time.0) MarkTime at (passed (begin at t)) zero_below
+  time_ticking : (o : Option Step) (at : ℕ) (d : Result ℕ Spoilt) → Each Ticking (time_turn o at d)
+  time_ticking o at (Err (NotDigit i)) = tt
+  time_ticking o at (Err (TooLarge i)) = tt
+  time_ticking o at (Ok t) = unless_broken Ticking (is_late o t) MarkTime at (passed (begin at t)) zero_below
 
-  mark_ticking : (o : Step) (at : ℕ) (w : List ℕ) → Each Ticking (mark_turn o at w)
+  mark_ticking : (o : Option Step) (at : ℕ) (w : List ℕ) → Each Ticking (mark_turn o at w)
   unfolding mark_turn
   mark_ticking o at [] = tt
   mark_ticking o at (b ∷ ds) = time_ticking o at (read_decimal ds)
+
+  -- the open step, where there is one
+  abbrev OpenTicking : Option Step → Type 0
+  OpenTicking None = Unit {0}
+  OpenTicking (Some s) = Ticking s
 
   abbrev AllTicking : List Step → Type 0
   AllTicking [] = Unit {0}
   AllTicking (s ∷ ss) = Ticking s × AllTicking ss
 
   module _ (vs : List Variable) (known : Clocks vs) where
-    variable_ticking : (o : Step) (at : ℕ) (id : List ℕ) → Ticking o → Each Ticking (variable_turn vs o at id)
-    variable_ticking o at id h = unless_broken Ticking (not o.begun) ChangeBeforeMark at (found_turn o at (look_up vs id)) (found_ticking o at (look_up vs id) h (look_clock id vs known))
+    variable_ticking : (o : Option Step) (at : ℕ) (id : List ℕ) → OpenTicking o → Each Ticking (variable_turn vs o at id)
+    variable_ticking None at id h = tt
+    variable_ticking (Some s) at id h = found_ticking s at (look_up vs id) h (look_clock id vs known)
 
-    change_ticking : (o : Step) (at : ℕ) (w : List ℕ) → Ticking o → Each Ticking (change_turn vs o at w)
+    change_ticking : (o : Option Step) (at : ℕ) (w : List ℕ) → OpenTicking o → Each Ticking (change_turn vs o at w)
     unfolding change_turn
     change_ticking o at [] h = tt
     change_ticking o at (b ∷ []) h = tt
     change_ticking o at (b ∷ i ∷ is) h = unless_broken Ticking (not (is_value b)) BodyWord at (variable_turn vs o at (i ∷ is)) (variable_ticking o at (i ∷ is) h)
 
-    word_ticking : (o : Step) (at : ℕ) (w : List ℕ) → Ticking o → Each Ticking (word_turn vs o at w)
+    word_ticking : (o : Option Step) (at : ℕ) (w : List ℕ) → OpenTicking o → Each Ticking (word_turn vs o at w)
     unfolding word_turn
     word_ticking o at w h = go (opens_mark w)
       where
@@ -214,26 +215,23 @@ module _ (g : Naming) (room : g.count ≤ 32) where
         go true = mark_ticking o at w
         go false = change_ticking o at w h
 
-    closing_ticking : (o : Step) (g : Reading) → Ticking o → AllTicking g.steps → AllTicking (closing o g).steps
+    closing_ticking : (o : Option Step) (g : Reading) → OpenTicking o → AllTicking g.steps → AllTicking (closing o g).steps
     unfolding closing
-    closing_ticking o g h k = go o.begun
-      where
-        go : (x : Bool) → AllTicking (cond x (record { steps = o ∷ g.steps; ending = g.ending }) g).steps
-        go true = (h, k)
-        go false = k
+    closing_ticking None g h k = k
+    closing_ticking (Some s) g h k = (h, k)
 
-    onward_ticking : (c : Checked Step) (f : Step → Reading) → Each Ticking c → ((o : Step) → Ticking o → AllTicking (f o).steps) → AllTicking (onward c f).steps
+    onward_ticking : (c : Checked Step) (f : Step → Reading) → Each Ticking c → ((s : Step) → Ticking s → AllTicking (f s).steps) → AllTicking (onward c f).steps
     unfolding onward
-    onward_ticking (passed o) f h k = k o h
+    onward_ticking (passed s) f h k = k s h
     onward_ticking (stopped l p) f h k = tt
 
-    body_ticking : (r : List ℕ) (o : Step) (ws : List Span) → Ticking o → AllTicking (body_steps vs r o ws).steps
+    body_ticking : (r : List ℕ) (o : Option Step) (ws : List Span) → OpenTicking o → AllTicking (body_steps vs r o ws).steps
     unfolding body_steps
     body_ticking r o [] h = closing_ticking o _ h tt
-    body_ticking r o (w ∷ ws) h = go (opens_mark (bytes_of r w)) (onward_ticking _ _ (word_ticking o w.start (bytes_of r w) h) (λ p k. body_ticking r p ws k))
+    body_ticking r o (w ∷ ws) h = go (opens_mark (bytes_of r w)) (onward_ticking _ _ (word_ticking o w.start (bytes_of r w) h) (λ s k. body_ticking r (Some s) ws k))
       where
         later : Reading
-        later = onward (word_turn vs o w.start (bytes_of r w)) (λ p. body_steps vs r p ws)
+        later = onward (word_turn vs o w.start (bytes_of r w)) (λ s. body_steps vs r (Some s) ws)
 
         go : (x : Bool) → AllTicking later.steps → AllTicking (cond x (closing o later) later).steps
         go true k = closing_ticking o later h k
@@ -249,5 +247,5 @@ module _ (g : Naming) (room : g.count ≤ 32) where
   reading_ticking all r = go (opened g r) (opened_known all r)
     where
       go : (c : Checked Header) → Known c → AllTicking (onward c (body_of r)).steps
-      go (passed h) k = body_ticking h.variables k r unmarked h.body zero_below
+      go (passed h) k = body_ticking h.variables k r None h.body tt
       go (stopped l p) k = tt

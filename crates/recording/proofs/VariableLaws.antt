@@ -1,5 +1,7 @@
 -- Ids as numbers, which tell ids of up to 4 bytes apart, and the look-ups of ids and clocks, unfolded by one variable from an index on.
 -- Assumes nothing.
+use Rattle.std.specs.Prelude.{Some, None}
+use Rattle.std.specs.List.{list_any}
 use mathlib.Core.Path.{◌≡◌, refl, sym, ap, ◌∙◌}
 use mathlib.Core.Bool.{Bool, true, false, cond, ◌||◌}
 use mathlib.Core.List.{List, [], ◌∷◌, ◌++◌}
@@ -8,14 +10,14 @@ use native.Mathlib.Numerals.{add-one}
 use native.Mathlib.Omega.{arith}
 use borrow.Author.Tests.{eqb-true, eqb-false, ltb-false, eq-eqb, ne_eqb, ltb-true, lt-ltb, le-leb, lt-leb}
 use lib.Dec.{eqb, ltb}
-use lib.ListN.{length, drop, get_or, set, drop_of_length-le}
+use lib.ListN.{length, take, drop, get_or, set}
 use lib.Seq.{drop-nil, get_or-set_same, get_or-set_other}
 use Rattle.constraint.proofs.Booleans.{and_l, and_r}
 use Rattle.text.specs.Bytes.{all_bytes, same_bytes}
-use Rattle.text.proofs.Bytes.{drop_next, same_equal, equal_same}
-use Rattle.grammar.specs.declared.Found.TheVariants.{At, Nothing}
+use Rattle.text.proofs.Bytes.{same_equal, equal_same}
 use Rattle.recording.specs.Variables.{Variable, with_id, look_up, has_clock, all_declared}
-use Rattle.recording.specs.Index.{code_of, digit_of, Bytes, bytes_of_code, variables_of, bucket_of, Starts, Index}
+use Rattle.recording.specs.Index.{code_of, digit_of, Bytes, bytes_of_code, variables_of, declared, bucket_of, Starts}
+use Rattle.recording.specs.declared.variables.Variables.TheInside.{Inside}
 
 -- ---- ids as numbers
 
@@ -131,52 +133,39 @@ declared_more vs id c k m e t h q = rw (e, code_back 5 id (omega arith) t, q)
 module _ (n : ℕ) (cs ks : List ℕ) (i : ℕ) where
   -- the search for an id
   module _ (w : List ℕ) where
-    pub id_done : n ≤ i → with_id (drop i (variables_of n cs ks)) w ≡ Nothing
+    pub id_done : n ≤ i → with_id (drop i (variables_of n cs ks)) w ≡ None
     unfolding with_id
     id_done h = rw (variables_done n cs ks i h)
 
     module _ (h : i < n) (p : n ≤ length cs) (q : n ≤ length ks) (short : length w ≤ 4) (t : Bytes w) where
-      id_turn : with_id (drop i (variables_of n cs ks)) w ≡ cond (eqb (get_or cs i 0) (code_of w)) (At (get_or ks i 0)) (with_id (drop (i + 1) (variables_of n cs ks)) w)
+      id_turn : with_id (drop i (variables_of n cs ks)) w ≡ cond (eqb (get_or cs i 0) (code_of w)) (Some (get_or ks i 0)) (with_id (drop (i + 1) (variables_of n cs ks)) w)
       unfolding with_id
       id_turn = rw (variables_next n cs ks i h p q, same_code (get_or cs i 0) w short t)
 
-      pub id_stop : get_or cs i 0 ≡ code_of w → with_id (drop i (variables_of n cs ks)) w ≡ At (get_or ks i 0)
+      pub id_stop : get_or cs i 0 ≡ code_of w → with_id (drop i (variables_of n cs ks)) w ≡ Some (get_or ks i 0)
       id_stop e = id_turn ∙ rw (eq-eqb _ _ e)
 
       pub id_on : (get_or cs i 0 ≡ code_of w → ⊥) → with_id (drop i (variables_of n cs ks)) w ≡ with_id (drop (i + 1) (variables_of n cs ks)) w
       id_on e = id_turn ∙ rw (ne_eqb _ _ e)
 
-  -- the search for a clock
-  module _ (k : ℕ) where
-    pub clock_done : n ≤ i → has_clock (drop i (variables_of n cs ks)) k ≡ false
-    unfolding has_clock
-    clock_done h = rw (variables_done n cs ks i h)
-
-    module _ (h : i < n) (p : n ≤ length cs) (q : n ≤ length ks) where
-      clock_turn : has_clock (drop i (variables_of n cs ks)) k ≡ (eqb (get_or ks i 0) k || has_clock (drop (i + 1) (variables_of n cs ks)) k)
-      unfolding has_clock
-      clock_turn = rw (variables_next n cs ks i h p q)
-
-      pub clock_stop : get_or ks i 0 ≡ k → has_clock (drop i (variables_of n cs ks)) k ≡ true
-      clock_stop e = clock_turn ∙ rw (eq-eqb _ _ e)
-
-      pub clock_on : (get_or ks i 0 ≡ k → ⊥) → has_clock (drop i (variables_of n cs ks)) k ≡ has_clock (drop (i + 1) (variables_of n cs ks)) k
-      clock_on e = clock_turn ∙ rw (ne_eqb _ _ e)
+-- a clock among those of the variables
+pub clock_among : (n : ℕ) (cs ks : List ℕ) (k : ℕ) → n ≤ length cs → n ≤ length ks → list_any (λ y. eqb y k) (take n ks) ≡ has_clock (variables_of n cs ks) k
+unfolding variables_of has_clock
+clock_among zero cs ks k p q = refl
+clock_among (suc n) [] ks k p q = absurd (omega arith)
+clock_among (suc n) (c ∷ cs) [] k p q = absurd (omega arith)
+clock_among (suc n) (c ∷ cs) (y ∷ ks) k p q = ap (λ (b : Bool). eqb y k || b) (clock_among n cs ks k (omega arith) (omega arith))
 
 module _ (vs : List Variable) (w : List ℕ) where
-  pub look_long : 4 < length w → look_up vs w ≡ Nothing
+  pub look_long : 4 < length w → look_up vs w ≡ None
   look_long h = rw (lt-leb (length w) 4 h)
 
   pub look_short : length w ≤ 4 → look_up vs w ≡ with_id vs w
   look_short h = rw (le-leb (length w) 4 h)
 
--- the digit of a byte
-module _ (w : List ℕ) (i : ℕ) where
-  pub digit_some : i < length w → digit_of (drop i w) ≡ get_or w i 0 + 1
-  digit_some h = rw (drop_next w i 0 h)
-
-  pub digit_none : length w ≤ i → digit_of (drop i w) ≡ 0
-  digit_none h = rw (drop_of_length-le w h)
+-- what was found among the variables in code
+pub look_of : (us vs : List Variable) (w : List ℕ) → us ≡ vs → length w ≤ 4 → with_id us w ≡ look_up vs w
+look_of us vs w e h = rw (e, look_short vs w h)
 
 -- the clocks below a number, one by one from the top
 module _ (vs : List Variable) (k j : ℕ) (e : k ≡ j + 1) where
@@ -191,6 +180,10 @@ module _ (vs : List Variable) (k j : ℕ) (e : k ≡ j + 1) where
 pub all_done : (vs : List Variable) (k : ℕ) → k ≡ 0 → all_declared vs k ≡ true
 unfolding all_declared
 all_done vs k e = rw e
+
+-- as many as are seen are counted
+pub room : (v : Inside) (vs : List Variable) → declared v ≡ vs → length (declared v) ≡ v.count → length vs < 128 → v.count < 128
+room v vs e c h = omega (arith, c, ap (λ (us : List Variable). length us) e, h)
 
 -- ---- where a search begins
 
@@ -210,16 +203,16 @@ starts_more n cs ss c b s room is inside low last starts j high = go (eqb j n) r
     go false e = let k = eqb-false j n e in rw (get_or-set_other cs n j c 0 k) (old _ (starts j (omega (arith, high, k))))
 
 -- up to the start of its bucket no variable has the id
-pub starts_skip : (n : ℕ) (cs ks ss w : List ℕ) → Index n cs ks ss → length w ≤ 4 → Bytes w
+pub starts_skip : (n : ℕ) (cs ks ss w : List ℕ) → n ≤ length cs → n ≤ length ks → Starts n cs ss → length w ≤ 4 → Bytes w
     → (k : ℕ) → k ≤ get_or ss (bucket_of (code_of w)) 0 → with_id (drop k (variables_of n cs ks)) w ≡ with_id (variables_of n cs ks) w
-starts_skip n cs ks ss w x short t zero low = refl
-starts_skip n cs ks ss w x short t (suc k) low = go (ltb k n) refl ∙ starts_skip n cs ks ss w x short t k (omega (arith, low))
+starts_skip n cs ks ss w p q starts short t zero low = refl
+starts_skip n cs ks ss w p q starts short t (suc k) low = go (ltb k n) refl ∙ starts_skip n cs ks ss w p q starts short t k (omega (arith, low))
   where
     differs : k < n → get_or cs k 0 ≡ code_of w → ⊥
     differs h e =
-        let past : get_or ss (bucket_of (code_of w)) 0 ≤ k = rw e at (x.begins k h) in
+        let past : get_or ss (bucket_of (code_of w)) 0 ≤ k = rw e at (starts k h) in
         omega (arith, past, low)
 
     go : (y : Bool) → ltb k n ≡ y → with_id (drop (suc k) (variables_of n cs ks)) w ≡ with_id (drop k (variables_of n cs ks)) w
-    go true e = let h = ltb-true k n e in rw (← add-one k) (sym (id_on n cs ks k w h x.ids_fit x.clocks_fit short t (differs h)))
+    go true e = let h = ltb-true k n e in rw (← add-one k) (sym (id_on n cs ks k w h p q short t (differs h)))
     go false e = let h = ltb-false k n e in id_done n cs ks (suc k) w (omega (arith, h)) ∙ sym (id_done n cs ks k w h)

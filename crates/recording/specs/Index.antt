@@ -2,9 +2,8 @@
 -- Assumes nothing.
 use Rattle.std.specs.Prelude.{◌≡◌, true, List, [], ◌∷◌, ℕ, zero, suc, ◌+◌, ◌*◌, ◌/◌, ◌%◌, ◌≤◌, ◌<◌, ltb, length, get_or}
 use Rattle.text.specs.Bytes.{all_bytes}
-use Rattle.grammar.specs.declared.Found.{Found}
-use Rattle.recording.specs.Variables.{Variable, with_id}
-use Rattle.recording.specs.declared.Variables.{Variables}
+use Rattle.recording.specs.Variables.{Variable}
+use Rattle.recording.specs.declared.variables.Variables.TheInside.{Inside}
 
 -- an id is kept as a number: each of its bytes is a digit to the base 256, from 1 to 256, the first being the lowest
 unfoldable pub code_of : List ℕ → ℕ
@@ -31,7 +30,7 @@ variables_of (suc n) [] ks = []
 variables_of (suc n) (c ∷ cs) [] = []
 variables_of (suc n) (c ∷ cs) (k ∷ ks) = record { id = bytes_of_code 5 c; clock = k } ∷ variables_of n cs ks
 
-abbrev pub declared : Variables → List Variable
+abbrev pub declared : Inside → List Variable
 declared v = variables_of v.count v.ids v.clocks
 
 -- ---- where a search begins
@@ -44,18 +43,8 @@ bucket_of c = c % 241
 abbrev pub Starts : (count : ℕ) → (ids starts : List ℕ) → Type 0
 Starts n cs ss = (j : ℕ) → j < n → get_or ss (bucket_of (get_or cs j 0)) 0 ≤ j
 
--- what is lent for the search of an id
-pub record Index (count : ℕ) (ids clocks starts : List ℕ) : Type 0 where
-  pub ids_fit : count ≤ length ids
-  pub clocks_fit : count ≤ length clocks
-  pub buckets_fit : 241 ≤ length starts
-  pub begins : Starts count ids starts
-
--- the same of the variables in code
-pub record Indexed (v : Variables) : Type 0 where
+-- of the variables in code
+pub record Indexed (v : Inside) : Type 0 where
   pub few : v.count ≤ 128
+  pub counted : length (declared v) ≡ v.count
   pub begins : Starts v.count v.ids v.starts
-
--- what was found for the number of an id is the clock of the variable with that id
-abbrev pub Finds : List Variable → (sought : ℕ) → Found → Type 0
-Finds vs c found = (w : List ℕ) → c ≡ code_of w → length w ≤ 4 → Bytes w → found ≡ with_id vs w

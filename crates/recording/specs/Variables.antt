@@ -1,11 +1,9 @@
 -- The variables that a header declares: document 01, "Recording", and document 02, M-103. Assumes nothing.
-use Rattle.std.specs.Prelude.{◌≡◌, refl, Bool, true, false, not, cond, ◌&&◌, ◌||◌, List, [], ◌∷◌, ℕ, zero, suc, eqb, leb, length}
+use Rattle.std.specs.Prelude.{◌≡◌, refl, Bool, true, false, not, cond, ◌&&◌, ◌||◌, List, [], ◌∷◌, ℕ, zero, suc, eqb, leb, length, Option, Some, None}
 use Rattle.text.specs.Ascii.{ascii}
 use Rattle.text.specs.Bytes.{same_bytes}
 use Rattle.grammar.specs.Grammar.{clock_of}
 use Rattle.grammar.specs.Names.{number_in}
-use Rattle.grammar.specs.declared.Found.{Found}
-use Rattle.grammar.specs.declared.Found.TheVariants.{At, Nothing}
 use Rattle.grammar.specs.declared.Names.{Names}
 use Rattle.recording.specs.declared.UnknownNames.{UnknownNames}
 use Rattle.recording.specs.declared.UnknownNames.TheVariants.{Refused, Ignored}
@@ -34,20 +32,20 @@ pub record Naming : Type 0 where
   pub unknown : UnknownNames
 
 abbrev pub naming_in : (table : List ℕ) → Names → UnknownNames → Naming
-naming_in t ns u = record { named = clock_named t ns; count = ns.count; unknown = u }
+naming_in t ns u = record { named = clock_named t ns; count = length ns.spans; unknown = u }
 
 -- the clock of the variable with an id
-unfoldable pub with_id : List Variable → List ℕ → Found
-with_id [] w = Nothing
-with_id (v ∷ vs) w = cond (same_bytes v.id w) (At v.clock) (with_id vs w)
+unfoldable pub with_id : List Variable → List ℕ → Option ℕ
+with_id [] w = None
+with_id (v ∷ vs) w = cond (same_bytes v.id w) (Some v.clock) (with_id vs w)
 
 -- an id over 4 bytes is undeclared
-abbrev pub look_up : List Variable → List ℕ → Found
-look_up vs w = cond (leb (length w) 4) (with_id vs w) Nothing
+abbrev pub look_up : List Variable → List ℕ → Option ℕ
+look_up vs w = cond (leb (length w) 4) (with_id vs w) None
 
-abbrev pub is_declared : Found → Bool
-is_declared (At k) = true
-is_declared Nothing = false
+abbrev pub is_declared : Option ℕ → Bool
+is_declared (Some k) = true
+is_declared None = false
 
 -- a variable of the table's clock k
 unfoldable pub has_clock : List Variable → ℕ → Bool
@@ -65,11 +63,11 @@ all_declared vs (suc k) = has_clock vs k && all_declared vs k
 
 -- ---- examples: an id over 4 bytes is undeclared; an ignored variable may be declared again
 
-found : look_up (record { id = ascii "!"; clock = 3 } ∷ []) (ascii "!") ≡ At 3
+found : look_up (record { id = ascii "!"; clock = 3 } ∷ []) (ascii "!") ≡ Some 3
 unfolding with_id same_bytes
 found = refl
 
-too_long : look_up (record { id = ascii "!!!!!"; clock = 3 } ∷ []) (ascii "!!!!!") ≡ Nothing
+too_long : look_up (record { id = ascii "!!!!!"; clock = 3 } ∷ []) (ascii "!!!!!") ≡ None
 too_long = refl
 
 again : clock_again (record { id = ascii "!"; clock = 3 } ∷ []) 3 ≡ true

@@ -1,285 +1,235 @@
 // The header: skipped commands, declarations and its end.
-ghost use Rattle.std.specs.Prelude.{◌≡◌, [], ◌≤◌, ◌<◌};
-ghost use Rattle.limit.specs.Checked as k;
+ghost use Rattle.std.specs.Prelude.{◌≡◌, ◌≤◌, [], length, IfOk};
 ghost use Rattle.recording.specs.Answers as a;
 ghost use Rattle.recording.specs.Header as h;
-ghost use Rattle.recording.specs.Index as x;
+ghost use Rattle.recording.specs.Left.{words_left};
 ghost use Rattle.recording.specs.Variables as v;
 
-use super::lookup::{all_declared, clock_again, code, is_declared, none, with_variable};
-use super::{Command, Declared, HeaderRead, UnknownNames, Variables, Words};
-use grammar::{Found, Names};
-use limit::{Check, Limit, Place, Refusal};
-use text::{Class, Span};
+use super::{Command, NO_CLOCK, UnknownNames, Variables, Words};
+use grammar::Names;
+use limit::{Limit, Place, Refusal};
+use text::{Class, Span, same_bytes};
 
-// Whether a word opens a command that is skipped.
-fn skips(word: &[u8]) -> bool
-    ensures { result ≡ h.skips word.now }
-{
-    text::same_bytes(word, b"$date")
-        | text::same_bytes(word, b"$version")
-        | text::same_bytes(word, b"$comment")
-        | text::same_bytes(word, b"$timescale")
-        | text::same_bytes(word, b"$scope")
-        | text::same_bytes(word, b"$upscope")
+// The bytes that a recording may have.
+const MOST_BYTES: usize = 65536;
+
+// What a header is read by: the names of a table's clocks, as they stand in its text, and what becomes of others.
+#[derive(Clone, Copy)]
+pub struct Naming<'a> {
+    pub table: &'a [u8],
+    pub names: &'a Names,
+    pub unknown: UnknownNames,
 }
 
-// What a word opens.
-fn command(word: &[u8]) -> Command
-    ensures { result ≡ h.command_of word.now }
-{
-    if skips(word) {
-        return Command::Skipped;
+// A header that was read: its variables, and the words of the body.
+#[derive(Drop)]
+pub struct Header<'a> {
+    pub variables: Variables,
+    pub body: Words<'a>,
+}
+
+// The five words behind `$var`.
+#[derive(Clone, Copy)]
+pub struct Declaration {
+    pub kind: Span,
+    pub width: Span,
+    pub id: Span,
+    pub name: Span,
+    pub last: Span,
+}
+
+impl<'a> Naming<'a> {
+    // The number of the table's clock with a name.
+    fn clock_named(self, name: &[u8]) -> u8
+        ensures { result ≡ (a.naming_of self.entry).named name.now }
+    {
+        self.names.find(self.table, name).unwrap_or(NO_CLOCK)
     }
-    if text::same_bytes(word, b"$var") {
-        return Command::Declaration;
+
+    // Whether a variable is refused for its name, by the number of its clock.
+    fn refuses(self, clock: u8) -> bool
+        ensures { result ≡ v.refuses_unknown (a.naming_of self.entry).unknown clock }
+    {
+        match self.unknown {
+            UnknownNames::Refused => clock == NO_CLOCK,
+            UnknownNames::Ignored => false,
+        }
     }
-    if text::same_bytes(word, b"$enddefinitions") {
-        return Command::Definitions;
+}
+
+impl Command {
+    // Whether a word opens a command that is skipped.
+    fn is_skipped(word: &[u8]) -> bool
+        ensures { result ≡ h.skips word.now }
+    {
+        same_bytes(word, b"$date")
+            || same_bytes(word, b"$version")
+            || same_bytes(word, b"$comment")
+            || same_bytes(word, b"$timescale")
+            || same_bytes(word, b"$scope")
+            || same_bytes(word, b"$upscope")
     }
-    Command::Unknown
+
+    // What a word opens.
+    fn of(word: &[u8]) -> Self
+        ensures { result ≡ h.command_of word.now }
+    {
+        if Self::is_skipped(word) {
+            Command::Skipped
+        } else if same_bytes(word, b"$var") {
+            Command::Declaration
+        } else if same_bytes(word, b"$enddefinitions") {
+            Command::Definitions
+        } else {
+            Command::Unknown
+        }
+    }
 }
 
 // Whether a word is `$end`.
 fn is_end(word: &[u8]) -> bool
     ensures { result ≡ h.says word.now "$end" }
 {
-    text::same_bytes(word, b"$end")
+    same_bytes(word, b"$end")
 }
 
-// Where the first `$end` from an offset on ends; the recording's end where there is none.
-fn after_end(recording: &[u8], from: usize) -> usize
-    ensures { a.Resumes recording.now from result }
+// The next word, before which the header must not end.
+fn next_word<'a>(words: &mut Words<'a>) -> Result<Span, Refusal>
+    ensures { a.GivesNext words.old result words.new }
 {
-    let mut at = from;
-    while at < recording.len() {
-        let word = text::next_word(Class::Parting, recording, at);
-        if is_end(text::part(recording, word)) {
-            return word.end;
+    words
+        .next()
+        .ok_or(Limit::HeaderCutOff.at(Place(words.text.len())))
+}
+
+// Skips the words up to the first `$end`, it included; all where there is none.
+#[tactic(auto, unfolding(crate::specs::Answers::after_end))]
+fn skip_command<'a>(words: &mut Words<'a>)
+    ensures left { words_left words.new ≡ a.after_end words.old.text.now (words_left words.old) }
+    ensures text { words.new.text.now ≡ words.old.text.now }
+    ensures fewer { length (words_left words.new) ≤ length (words_left words.old) }
+{
+    loop {
+        let Some(word) = words.next() else {
+            return;
+        };
+        if is_end(word.of(words.text)) {
+            return;
         }
-        at = word.end;
-    }
-    recording.len()
-}
-
-// The five words from an offset on, the empty one standing for each that is not there.
-fn five_words(recording: &[u8], from: usize) -> Words
-    ensures { a.FiveWords recording.now from result }
-{
-    let kind = text::next_word(Class::Parting, recording, from);
-    let width = text::next_word(Class::Parting, recording, kind.end);
-    let id = text::next_word(Class::Parting, recording, width.end);
-    let name = text::next_word(Class::Parting, recording, id.end);
-    let last = text::next_word(Class::Parting, recording, name.end);
-    Words {
-        kind,
-        width,
-        id,
-        name,
-        last,
     }
 }
 
-// Whether the words of a declaration have its shape.
-fn shaped(recording: &[u8], words: Words) -> bool
-    ensures { result ≡ h.shaped recording.now words.kind words.width words.id words.last }
-{
-    text::same_bytes(text::part(recording, words.kind), b"event")
-        & text::same_bytes(text::part(recording, words.width), b"1")
-        & (text::part(recording, words.id).len() <= 4)
-        & text::same_bytes(text::part(recording, words.last), b"$end")
-}
+impl Declaration {
+    // The five words at hand.
+    fn read<'a>(words: &mut Words<'a>) -> Result<Self, Refusal>
+        ensures { a.GivesFive words.old result words.new }
+    {
+        Ok(Declaration {
+            kind: next_word(words)?,
+            width: next_word(words)?,
+            id: next_word(words)?,
+            name: next_word(words)?,
+            last: next_word(words)?,
+        })
+    }
 
-// The number of the table's clock with a name.
-fn clock_named(table: &[u8], names: Names, name: &[u8]) -> u8
-    ensures { result ≡ v.clock_named table.now names name.now }
-{
-    let found = grammar::find_name(table, names, name);
-    match found {
-        Found::At(clock) => clock,
-        Found::Nothing => 32,
+    // Whether the words have the shape of a declaration.
+    fn is_shaped(self, recording: &[u8]) -> bool
+        ensures { result ≡ h.shaped recording.now self.kind self.width self.id self.last }
+    {
+        same_bytes(self.kind.of(recording), b"event")
+            && same_bytes(self.width.of(recording), b"1")
+            && self.id.of(recording).len() <= 4
+            && is_end(self.last.of(recording))
+    }
+
+    // Declares a variable more, by the command at a place.
+    #[tactic(auto, unfolding(crate::specs::Header::declare))]
+    fn declare<'a>(
+        self,
+        naming: Naming<'a>,
+        recording: &[u8],
+        variables: &mut Variables,
+        at: Place,
+    ) -> Result<(), Refusal>
+        ensures { a.with_value result variables.new ≡ h.declare (a.naming_of naming.entry) recording.now at.0 variables.old self.kind self.width self.id self.name self.last }
+    {
+        if !self.is_shaped(recording) {
+            return Err(Limit::VariableShape.at(at));
+        }
+        let id = self.id.of(recording);
+        let clock = naming.clock_named(self.name.of(recording));
+        if variables.is_declared(id) || variables.clock_again(clock) {
+            return Err(Limit::DeclaredTwice.at(at));
+        }
+        if naming.refuses(clock) {
+            return Err(Limit::VariableUnknown.at(at));
+        }
+        if variables.is_full() {
+            return Err(Limit::VariableCount.at(at));
+        }
+        variables.declare(id, clock);
+        Ok(())
     }
 }
 
-// Whether a variable is refused for its name, by the number of its clock.
-fn refuses_unknown(unknown: UnknownNames, clock: u8) -> bool
-    ensures { result ≡ v.refuses_unknown unknown clock }
-{
-    match unknown {
-        UnknownNames::Refused => clock == 32,
-        UnknownNames::Ignored => false,
-    }
-}
-
-// A declaration that breaks a limit.
-fn undeclared(variables: Variables, limit: Limit, at: usize) -> Declared
-    ensures { (a.declared_as result ≡ k.Checked.stopped limit at) × (result.variables ≡ variables) }
-{
-    Declared {
-        outcome: Check::Refused(Refusal {
-            limit,
-            place: Place(at),
-        }),
-        variables,
-    }
-}
-
-// One variable more, declared by the command at an offset.
-fn declare(
-    table: &[u8],
-    names: Names,
-    recording: &[u8],
-    unknown: UnknownNames,
+// The end of the header, behind the command `$enddefinitions` at a place.
+#[tactic(auto, unfolding(crate::specs::Header::close))]
+fn close<'a>(
     variables: Variables,
-    at: usize,
-    words: Words,
-) -> Declared
-    requires { x.Indexed variables }
-    ensures { (a.declared_as result ≡ h.declare (v.naming_in table.now names unknown) recording.now at (x.declared variables) words.kind words.width words.id words.name words.last) × x.Indexed result.variables }
+    words: Words<'a>,
+    clocks: u8,
+    at: Place,
+) -> Result<Header<'a>, Refusal>
+    ensures header { a.header_as result ≡ h.close clocks words.entry.text.now at.0 variables (words_left words.entry) }
+    ensures text { IfOk result (λ h. h.body.text.now ≡ words.entry.text.now) }
 {
-    if !shaped(recording, words) {
-        return undeclared(variables, Limit::VariableShape, at);
+    let mut body = words;
+    let word = next_word(&mut body)?;
+    if !is_end(word.of(body.text)) {
+        return Err(Limit::HeaderCommand.at(at));
     }
-    let clock = clock_named(table, names, text::part(recording, words.name));
-    if is_declared(variables, text::part(recording, words.id)) | clock_again(variables, clock) {
-        return undeclared(variables, Limit::DeclaredTwice, at);
+    if !variables.all_declared(clocks) {
+        return Err(Limit::ClockUndeclared.at(at));
     }
-    if refuses_unknown(unknown, clock) {
-        return undeclared(variables, Limit::VariableUnknown, at);
-    }
-    if 128 <= variables.count {
-        return undeclared(variables, Limit::VariableCount, at);
-    }
-    Declared {
-        outcome: Check::Passed,
-        variables: with_variable(variables, code(text::part(recording, words.id)), clock),
-    }
-}
-
-// A header that breaks a limit.
-fn refused(variables: Variables, limit: Limit, at: usize) -> HeaderRead
-    ensures { (result.outcome ≡ Check.Refused (record { limit = limit; place = record { 0 = at } })) × (result.variables ≡ variables) }
-{
-    HeaderRead {
-        outcome: Check::Refused(Refusal {
-            limit,
-            place: Place(at),
-        }),
-        variables,
-        body: 0,
-    }
-}
-
-// The header as far as the words behind a `$var` command.
-fn declaration(
-    table: &[u8],
-    names: Names,
-    recording: &[u8],
-    unknown: UnknownNames,
-    variables: Variables,
-    command: Span,
-) -> HeaderRead
-    requires { x.Indexed variables }
-    ensures { a.Declares (v.naming_in table.now names unknown) recording.now (x.declared variables) command result }
-{
-    let words = five_words(recording, command.end);
-    if words.last.end <= words.last.start {
-        return refused(variables, Limit::HeaderCutOff, recording.len());
-    }
-    let declared = declare(
-        table,
-        names,
-        recording,
-        unknown,
-        variables,
-        command.start,
-        words,
-    );
-    let outcome = declared.outcome;
-    let more = declared.variables;
-    HeaderRead {
-        outcome,
-        variables: more,
-        body: words.last.end,
-    }
-}
-
-// The end of the header, behind the command `$enddefinitions`.
-fn close(recording: &[u8], variables: Variables, clocks: usize, command: Span) -> HeaderRead
-    requires { x.Indexed variables × (clocks ≤ 32) }
-    ensures { (a.header_as recording.now result ≡ h.close clocks recording.now command.start (x.declared variables) (h.words recording.now command.end)) × (result.variables ≡ variables) }
-{
-    let word = text::next_word(Class::Parting, recording, command.end);
-    if word.end <= word.start {
-        return refused(variables, Limit::HeaderCutOff, recording.len());
-    }
-    if !is_end(text::part(recording, word)) {
-        return refused(variables, Limit::HeaderCommand, command.start);
-    }
-    if !all_declared(variables, clocks as u8) {
-        return refused(variables, Limit::ClockUndeclared, command.start);
-    }
-    HeaderRead {
-        outcome: Check::Passed,
-        variables,
-        body: word.end,
-    }
+    Ok(Header { variables, body })
 }
 
 // The header, command by command.
-fn commands(table: &[u8], names: Names, recording: &[u8], unknown: UnknownNames) -> HeaderRead
-    requires { names.count ≤ 32 }
-    ensures { (a.header_as recording.now result ≡ h.header (v.naming_in table.now names unknown) recording.now [] (h.words recording.now 0)) × x.Indexed result.variables }
+#[tactic(auto, using(crate::proofs::HeaderLaws::skipping_on, crate::proofs::HeaderLaws::declaring_short), unfolding(crate::specs::Header::header, crate::specs::Header::declaring, limit::specs::Checked::and_then))]
+fn commands<'a, 'n>(naming: Naming<'n>, recording: &'a [u8]) -> Result<Header<'a>, Refusal>
+    ensures header { a.header_as result ≡ h.header (a.naming_of naming.entry) recording.now [] (h.words recording.now 0) }
+    ensures text { IfOk result (λ h. h.body.text.now ≡ recording.now) }
 {
-    let mut variables = none();
-    let mut at = 0;
+    let mut variables = Variables::new();
+    let mut words = Words::new(recording);
     loop {
-        let word = text::next_word(Class::Parting, recording, at);
-        if word.end <= word.start {
-            return refused(variables, Limit::HeaderCutOff, recording.len());
-        }
-        let opened = command(text::part(recording, word));
-        match opened {
-            Command::Skipped => {
-                at = after_end(recording, word.end);
-                continue;
-            }
+        let word = next_word(&mut words)?;
+        let at = Place(word.start);
+        match Command::of(word.of(recording)) {
+            Command::Skipped => skip_command(&mut words),
             Command::Declaration => {
-                let read = declaration(table, names, recording, unknown, variables, word);
-                let outcome = read.outcome;
-                if let Check::Refused(_) = outcome {
-                    return read;
-                }
-                variables = read.variables;
-                at = read.body;
-                continue;
+                let declaration = Declaration::read(&mut words)?;
+                declaration.declare(naming, recording, &mut variables, at)?;
             }
-            Command::Definitions => {
-                return close(recording, variables, names.count, word);
-            }
-            Command::Unknown => {
-                return refused(variables, Limit::HeaderCommand, word.start);
-            }
+            Command::Definitions => return close(variables, words, naming.names.len() as u8, at),
+            Command::Unknown => return Err(Limit::HeaderCommand.at(at)),
         }
     }
 }
 
 // The header of a recording: its variables, and where the body begins; or the first refusal of 30 to 38.
-pub fn read_header(
-    table: &[u8],
-    names: Names,
-    recording: &[u8],
-    unknown: UnknownNames,
-) -> HeaderRead
-    requires { names.count ≤ 32 }
-    ensures { (a.header_as recording.now result ≡ h.opened (v.naming_in table.now names unknown) recording.now) × x.Indexed result.variables }
+#[tactic(auto, unfolding(crate::specs::Header::opened))]
+pub fn read_header<'a, 'n>(naming: Naming<'n>, recording: &'a [u8]) -> Result<Header<'a>, Refusal>
+    ensures header { a.header_as result ≡ h.opened (a.naming_of naming.entry) recording.now }
+    ensures text { IfOk result (λ h. h.body.text.now ≡ recording.now) }
 {
-    if 65536 < recording.len() {
-        return refused(none(), Limit::RecordingLength, 0);
+    if MOST_BYTES < recording.len() {
+        return Err(Limit::RecordingLength.at(Place(0)));
     }
     let other = text::run_end(Class::Recorded, true, recording, 0);
     if other < recording.len() {
-        return refused(none(), Limit::RecordingByte, other);
+        return Err(Limit::RecordingByte.at(Place(other)));
     }
-    commands(table, names, recording, unknown)
+    commands(naming, recording)
 }

@@ -1,5 +1,7 @@
 -- Completed steps: judging them is completing and judging step by step, since an accepted step leaves the words moved. Their named clocks are the
 -- recorded ones, and each is what these complete to with the words after the steps before it. Assumes nothing.
+use Rattle.std.specs.Prelude.{Option, Some, None, Ok}
+use Rattle.limit.specs.declared.Place.{Place}
 use mathlib.Core.Path.{◌≡◌, refl, sym, ap, ap₂, ◌∙◌}
 use mathlib.Core.List.{List, [], ◌∷◌, ◌++◌, map, append-nil}
 use Prim.Native.Nat.{ℕ, suc, ◌%◌, ◌^◌, ◌<◌}
@@ -9,17 +11,14 @@ use lib.Seq.{append_snoc}
 use Rattle.constraint.specs.Implicit.{completed}
 use Rattle.constraint.specs.Million.{first_past}
 use Rattle.constraint.specs.Ticks.{Ticks, bits}
-use Rattle.constraint.specs.declared.Broken.{Broken}
-use Rattle.constraint.specs.declared.Broken.TheVariants.{Nowhere, At}
 use Rattle.constraint.specs.declared.Configuration.{Configuration}
 use Rattle.constraint.specs.declared.Constraint.{Constraint}
 use Rattle.constraint.specs.declared.Word.{Word}
 use Rattle.constraint.proofs.ImplicitLaws.{completed_keeps}
 use Rattle.recording.specs.Body.{Ending}
 use Rattle.recording.specs.declared.Step.{Step}
-use Rattle.judging.specs.Step.{first_failing, moved, handed_back, judged}
-use Rattle.judging.specs.declared.Judged.{Judged}
-use Rattle.judging.specs.declared.Outcome.TheVariants.{Held, Failed, PastMillion}
+use Rattle.judging.specs.Step.{Judged, first_failing, moved, handed_back, judged}
+use Rattle.judging.specs.declared.NotHeld.TheVariants.{Failed, PastMillion}
 use Rattle.run.specs.Complete.{with_set, complete_all, as_recorded}
 use Rattle.run.specs.Run.{Judging, after_step, judge_all}
 
@@ -38,15 +37,15 @@ module _ (named : ℕ) (rs : List Constraint) (e : Ending) where
     unfolding judge_all complete_all judged
     one_step = go (first_failing F 1 rs c.words) (first_past 1 rs (moved F rs c.words))
       where
-        j : Broken → Broken → Judged
-        j f b = handed_back Failed f c (handed_back PastMillion b c (record { outcome = Held; configuration = record { words = moved F rs c.words } }))
+        j : Option Place → Option Place → Judged
+        j f b = handed_back Failed f c (handed_back PastMillion b c (record { outcome = Ok tt; configuration = record { words = moved F rs c.words } }))
 
-        go : (f b : Broken)
+        go : (f b : Option Place)
             → after_step rs n (with_set (completed named rs c.words s.ticks) s) (j f b).outcome c (j f b).configuration (λ d. judge_all rs (suc n) d (complete_all named rs (moved F rs c.words) ss) e)
             ≡ after_step rs n s (j f b).outcome c (j f b).configuration (λ d. judge_rest (suc n) d ss)
-        go (At p) b = unfold after_step in refl
-        go Nowhere (At p) = unfold after_step in refl
-        go Nowhere Nowhere = unfold after_step in refl
+        go (Some p) b = unfold after_step in refl
+        go None (Some p) = unfold after_step in refl
+        go None None = unfold after_step in refl
 
 -- ---- the named clocks
 

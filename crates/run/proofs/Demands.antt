@@ -22,7 +22,7 @@ use Rattle.run.specs.Complete.{complete_all}
 use Rattle.run.specs.Demands.{Demand1, Demand2, NeverImplicit, ChoicesAgree, Demand3}
 use Rattle.run.specs.Judgement.{Accepted as AllAccepted, Judges, Ends, at_end, fails, past, after}
 use Rattle.run.specs.Refusals.{RunRefuses, by_table, by_reading, by_million}
-use Rattle.run.specs.Run.{Said, SaidDetermines, accepted, violated, refused, Told, ending_said, judge_all, ran, run_table, with_table, run_of, zeros, table_of, recorded_by, completed_for, reading_by}
+use Rattle.run.specs.Run.{Said, SaidDetermines, accepted, violated, refused, Told, ending_said, judge_all, ran, run_table, with_table, run_of, zeros, records_of, table_of, recorded_by, completed_for, reading_by}
 use Rattle.run.specs.declared.Verdict.TheVariants.{Accepted, Violated, Refused}
 use Rattle.run.proofs.JudgingLaws.{Split, split, judged_split}
 use Rattle.run.proofs.SingleSteps.{single_steps, names_no_implicit}
@@ -39,8 +39,8 @@ module _ (t r : List ℕ) (u : UnknownNames) where
   run_read e = rw e
 
   run_split : (table.read_table t).said ≡ table.read → (x : Split (table_of t).records (reading_by t r u).ending (reading_by t r u).steps)
-      → run_of t r u ≡ record { said = x.said; steps = length x.accepted; constraints = (table_of t).count; configuration = after (table_of t) x.accepted }
-  run_split e x = run_read e ∙ ap (ran (table_of t).count) (judged_split (table_of t) (every_table_passes t e) (reading_by t r u).ending (reading_by t r u).steps x)
+      → run_of t r u ≡ record { said = x.said; steps = length x.accepted; constraints = length (records_of (table_of t)); configuration = after (table_of t) x.accepted }
+  run_split e x = run_read e ∙ ap (ran (length (records_of (table_of t)))) (judged_split (table_of t) (every_table_passes t e) (reading_by t r u).ending (reading_by t r u).steps x)
 
 -- ---- demand 2
 

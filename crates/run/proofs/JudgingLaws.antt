@@ -1,5 +1,6 @@
 -- A table's slots behind its records hold and have no million, so a step's outcome is read off `Every` and `FirstWithout` over all slots; and so is a
 -- whole run: every list of steps splits into accepted ones and what ends them, and judging ends as it splits. Assumes nothing.
+use Rattle.std.specs.Prelude.{Ok, Err, Option, Some, None}
 use mathlib.Core.Path.{◌≡◌, refl, sym, ap, ◌∙◌}
 use mathlib.Core.Logic.{◌⊎◌, inl, inr}
 use mathlib.Core.Bool.{Bool, true, false, cond, false≢true}
@@ -13,12 +14,9 @@ use Rattle.constraint.specs.Lists.{at, empty, slots, first_not, broken_word}
 use Rattle.constraint.specs.Meaning.{holds, next_word}
 use Rattle.constraint.specs.SamePlace.{record_at}
 use Rattle.constraint.specs.Ticks.{Ticks, bits}
-use Rattle.constraint.specs.declared.Broken.{Broken}
-use Rattle.constraint.specs.declared.Broken.TheVariants.{Nowhere, At}
 use Rattle.constraint.specs.declared.Configuration.{Configuration}
 use Rattle.constraint.specs.declared.Constraint.{Constraint}
 use Rattle.constraint.specs.declared.Word.{Word}
-use Rattle.constraint.proofs.Slots.{length_slots, get_d_slots}
 use Rattle.table.specs.Reader as table
 use Rattle.grammar.specs.declared.Table.{Table}
 use Rattle.recording.specs.Body.{Ending}
@@ -27,16 +25,16 @@ use Rattle.run.specs.Judgement.{moved_by, word_after, HoldsAt, StaysAt, Every, n
 use Rattle.constraint.specs.Million.{in_million, first_past}
 use Rattle.run.specs.Run.{Said, violated, ending_said, line_of, after_step, judge_all, records_of, start_of}
 use Rattle.judging.specs.Step.{first_failing, moved, judged}
-use Rattle.judging.specs.declared.Outcome.TheVariants.{Held, Failed, PastMillion}
+use Rattle.judging.specs.declared.NotHeld.TheVariants.{Failed, PastMillion}
 use Rattle.judging.proofs.StepLaws.{out_is_past, judged_failed, judged_past, judged_held}
 
 -- ---- the first record that does not pass a test, the first of these having the place i
 
-abbrev first_slot : (Constraint → Bool) → (i : ℕ) → List Constraint → Broken
-first_slot t i [] = Nowhere
+abbrev first_slot : (Constraint → Bool) → (i : ℕ) → List Constraint → Option Place
+first_slot t i [] = None
 first_slot t i (r ∷ rs) = cond (t r) (first_slot t (suc i) rs) (at i)
 
-stops_at : (x : Bool) (b : Broken) (i : ℕ) → (x ≡ true → ⊥) → cond x b (at i) ≡ at (i + 0)
+stops_at : (x : Bool) (b : Option Place) (i : ℕ) → (x ≡ true → ⊥) → cond x b (at i) ≡ at (i + 0)
 stops_at true b i n = absurd (n refl)
 stops_at false b i n = ap at (omega arith)
 
@@ -47,7 +45,7 @@ module _ (t : Constraint → Bool) where
   abbrev Passes : Constraint → Type 0
   Passes r = t r ≡ true
 
-  every_passes : (i : ℕ) {rs : List Constraint} → Every Passes rs → first_slot t i rs ≡ Nowhere
+  every_passes : (i : ℕ) {rs : List Constraint} → Every Passes rs → first_slot t i rs ≡ None
   every_passes i none = refl
   every_passes i (more p ps) = rw p (every_passes (suc i) ps)
 
@@ -67,20 +65,17 @@ module _ (t : Constraint → Bool) where
 abbrev pub place_of : {P : Constraint → Type 0} {rs : List Constraint} {r : Constraint} → FirstWithout P rs r → Place
 place_of f = record { 0 = 1 + length f.earlier }
 
-first_found : (t : Constraint → Bool) {rs : List Constraint} {r : Constraint} (f : FirstWithout (Passes t) rs r) → first_slot t 1 rs ≡ At (place_of f)
+first_found : (t : Constraint → Bool) {rs : List Constraint} {r : Constraint} (f : FirstWithout (Passes t) rs r) → first_slot t 1 rs ≡ Some (place_of f)
 first_found t f = ap (first_slot t 1) f.place ∙ first_at t 1 _ f.later f.before f.here
 
--- ---- the slots behind the records
+-- ---- the words of slots, of which those behind the records are empty
 
 -- with the word f r of each slot r
 module _ (f : Constraint → Word) where
-  -- of a test that an empty slot passes
-  found_slot : (test : Constraint → Word → Bool) → ((w : Word) → test empty w ≡ true)
-      → (i n : ℕ) (rs : List Constraint) → length rs ≤ n → first_not test i rs (map f (slots n rs)) ≡ first_slot (λ r. test r (f r)) i (slots n rs)
-  found_slot test e i zero [] h = refl
-  found_slot test e i zero (r ∷ rs) h = absurd (omega arith)
-  found_slot test e i (suc n) [] h = rw (e (f empty)) (found_slot test e (suc i) n [] (omega arith))
-  found_slot test e i (suc n) (r ∷ rs) h = rw (found_slot test e (suc i) n rs (omega arith))
+  found_slot : (test : Constraint → Word → Bool) (i n : ℕ) (rs : List Constraint) → length rs ≤ n → first_not test i rs (map f (slots n rs)) ≡ first_slot (λ r. test r (f r)) i rs
+  found_slot test i n [] h = refl
+  found_slot test i zero (r ∷ rs) h = absurd (omega arith)
+  found_slot test i (suc n) (r ∷ rs) h = rw (found_slot test (suc i) n rs (omega arith))
 
   moved_slots : (F : Ticks) (g : Constraint → Word) → ((r : Constraint) → g r ≡ next_word r (f r) F) → (n : ℕ) (rs : List Constraint) → length rs ≤ n → map g (slots n rs) ≡ moved F rs (map f (slots n rs))
   moved_slots F g e zero [] h = refl
@@ -91,83 +86,82 @@ module _ (f : Constraint → Word) where
 -- ---- a step after others, ss
 
 -- the configuration after them
-abbrev after_all : List Constraint → List Step → Configuration
-after_all all ss = record { words = map (word_after ss) all }
+abbrev after_all : (n : ℕ) → List Constraint → List Step → Configuration
+after_all n rs ss = record { words = map (word_after ss) (slots n rs) }
 
 moved_more : (r : Constraint) (w : Word) (ss : List Step) (s : Step) → moved_by r w (ss ++ s ∷ []) ≡ next_word r (moved_by r w ss) (bits s.ticks)
 moved_more r w [] s = refl
 moved_more r w (q ∷ ss) s = moved_more r (next_word r w (bits q.ticks)) ss s
 
 -- accepted steps leave words in range, and judging goes on from there
-record Reached (rs all : List Constraint) (ss : List Step) : Type 0 where
-  inside : broken_word rs (after_all all ss).words ≡ Nowhere
-  judges : (e : Ending) (left : List Step) → judge_all rs 0 (after_all all []) (ss ++ left) e ≡ judge_all rs (length ss) (after_all all ss) left e
+record Reached (n : ℕ) (rs : List Constraint) (ss : List Step) : Type 0 where
+  inside : broken_word rs (after_all n rs ss).words ≡ None
+  judges : (e : Ending) (left : List Step) → judge_all rs 0 (after_all n rs []) (ss ++ left) e ≡ judge_all rs (length ss) (after_all n rs ss) left e
 
--- all: every slot, those behind the records rs being empty
-module _ (n : ℕ) (rs all : List Constraint) (room : length rs ≤ n) (unused : all ≡ slots n rs) where
+-- there are slots for the records rs
+module _ (n : ℕ) (rs : List Constraint) (room : length rs ≤ n) where
   module _ (ss : List Step) (s : Step) where
     abbrev F : Ticks
     F = bits s.ticks
 
-    all_moved : (after_all all (ss ++ s ∷ [])).words ≡ moved F rs (after_all all ss).words
-    all_moved = rw unused (moved_slots (word_after ss) F _ (λ r. moved_more r _ ss s) n rs room)
+    all_moved : (after_all n rs (ss ++ s ∷ [])).words ≡ moved F rs (after_all n rs ss).words
+    all_moved = moved_slots (word_after ss) F _ (λ r. moved_more r _ ss s) n rs room
 
-    fails_first : first_failing F 1 rs (after_all all ss).words ≡ first_slot (λ r. holds r (word_after ss r) F) 1 all
-    fails_first = rw unused (found_slot (word_after ss) (λ r w. holds r w F) (λ w. refl) 1 n rs room)
+    fails_first : first_failing F 1 rs (after_all n rs ss).words ≡ first_slot (λ r. holds r (word_after ss r) F) 1 rs
+    fails_first = found_slot (word_after ss) (λ r w. holds r w F) 1 n rs room
 
-    past_first : first_past 1 rs (after_all all (ss ++ s ∷ [])).words ≡ first_slot (λ r. in_million r (word_after (ss ++ s ∷ []) r)) 1 all
-    past_first = rw unused (found_slot (word_after (ss ++ s ∷ [])) in_million (λ w. refl) 1 n rs room)
+    past_first : first_past 1 rs (after_all n rs (ss ++ s ∷ [])).words ≡ first_slot (λ r. in_million r (word_after (ss ++ s ∷ []) r)) 1 rs
+    past_first = found_slot (word_after (ss ++ s ∷ [])) in_million 1 n rs room
 
-    step_fails : {r : Constraint} (f : FirstWithout (HoldsAt ss s) all r) → judged F rs (after_all all ss) ≡ record { outcome = Failed (place_of f); configuration = after_all all ss }
-    step_fails f = judged_failed _ rs (after_all all ss) (place_of f) (fails_first ∙ first_found _ f)
+    step_fails : {r : Constraint} (f : FirstWithout (HoldsAt ss s) rs r) → judged F rs (after_all n rs ss) ≡ record { outcome = Err (Failed (place_of f)); configuration = after_all n rs ss }
+    step_fails f = judged_failed _ rs (after_all n rs ss) (place_of f) (fails_first ∙ first_found _ f)
 
     -- from words in range, once every record held
-    module _ (inside : broken_word rs (after_all all ss).words ≡ Nowhere) (hold : Every (HoldsAt ss s) all) where
-      none_fails : first_failing F 1 rs (after_all all ss).words ≡ Nowhere
+    module _ (inside : broken_word rs (after_all n rs ss).words ≡ None) (hold : Every (HoldsAt ss s) rs) where
+      none_fails : first_failing F 1 rs (after_all n rs ss).words ≡ None
       none_fails = fails_first ∙ every_passes _ 1 hold
 
-      step_past : {r : Constraint} (f : FirstWithout (StaysAt ss s) all r) → judged F rs (after_all all ss) ≡ record { outcome = PastMillion (place_of f); configuration = after_all all ss }
-      step_past f = judged_past _ rs (after_all all ss) (after_all all (ss ++ s ∷ [])) all_moved none_fails (place_of f) (past_first ∙ first_found _ f)
+      step_past : {r : Constraint} (f : FirstWithout (StaysAt ss s) rs r) → judged F rs (after_all n rs ss) ≡ record { outcome = Err (PastMillion (place_of f)); configuration = after_all n rs ss }
+      step_past f = judged_past _ rs (after_all n rs ss) (after_all n rs (ss ++ s ∷ [])) all_moved none_fails (place_of f) (past_first ∙ first_found _ f)
 
-      module _ (stay : Every (StaysAt ss s) all) where
-        none_past : first_past 1 rs (after_all all (ss ++ s ∷ [])).words ≡ Nowhere
+      module _ (stay : Every (StaysAt ss s) rs) where
+        none_past : first_past 1 rs (after_all n rs (ss ++ s ∷ [])).words ≡ None
         none_past = past_first ∙ every_passes _ 1 stay
 
-        still_inside : broken_word rs (after_all all (ss ++ s ∷ [])).words ≡ Nowhere
-        still_inside = rw all_moved (out_is_past F 1 rs (after_all all ss).words inside none_fails ∙ (rw all_moved at none_past))
+        still_inside : broken_word rs (after_all n rs (ss ++ s ∷ [])).words ≡ None
+        still_inside = rw all_moved (out_is_past F 1 rs (after_all n rs ss).words inside none_fails ∙ (rw all_moved at none_past))
 
-        step_held : judged F rs (after_all all ss) ≡ record { outcome = Held; configuration = after_all all (ss ++ s ∷ []) }
-        step_held = judged_held _ rs (after_all all ss) (after_all all (ss ++ s ∷ [])) all_moved none_fails none_past
+        step_held : judged F rs (after_all n rs ss) ≡ record { outcome = Ok tt; configuration = after_all n rs (ss ++ s ∷ []) }
+        step_held = judged_held _ rs (after_all n rs ss) (after_all n rs (ss ++ s ∷ [])) all_moved none_fails none_past
 
-  record_found : {P : Constraint → Type 0} {r : Constraint} (f : FirstWithout P all r) → record_at rs (length f.earlier) ≡ r
+  record_found : {P : Constraint → Type 0} {r : Constraint} (f : FirstWithout P rs r) → record_at rs (length f.earlier) ≡ r
   record_found f =
-      let k = length f.earlier in
-      sym (get_d_slots n rs k room) ∙ ap (λ l. get_or l k empty) (sym unused ∙ f.place) ∙ get_or-append_seam f.earlier _ f.later empty
+      ap (λ l. get_or l (length f.earlier) empty) f.place ∙ get_or-append_seam f.earlier _ f.later empty
 
-  line_found : {P : Constraint → Type 0} {r : Constraint} (f : FirstWithout P all r) → line_of rs (place_of f) ≡ r.line.0
+  line_found : {P : Constraint → Type 0} {r : Constraint} (f : FirstWithout P rs r) → line_of rs (place_of f) ≡ r.line.0
   line_found f = ap (λ (i : ℕ). (get_or rs i empty).line.0) (omega arith) ∙ ap (λ (c : Constraint). c.line.0) (record_found f)
 
   -- judging, through accepted steps, and at what ends them
-  one_more : (ss : List Step) (s : Step) → Reached rs all ss → Every (HoldsAt ss s) all → Every (StaysAt ss s) all → Reached rs all (ss ++ s ∷ [])
+  one_more : (ss : List Step) (s : Step) → Reached n rs ss → Every (HoldsAt ss s) rs → Every (StaysAt ss s) rs → Reached n rs (ss ++ s ∷ [])
   unfolding judge_all after_step
   one_more ss s a hold stay = record { inside = still_inside ss s a.inside hold stay; judges = onward }
     where
-      onward : (e : Ending) (left : List Step) → judge_all rs 0 (after_all all []) ((ss ++ s ∷ []) ++ left) e ≡ judge_all rs (length (ss ++ s ∷ [])) (after_all all (ss ++ s ∷ [])) left e
+      onward : (e : Ending) (left : List Step) → judge_all rs 0 (after_all n rs []) ((ss ++ s ∷ []) ++ left) e ≡ judge_all rs (length (ss ++ s ∷ [])) (after_all n rs (ss ++ s ∷ [])) left e
       onward e left =
           let l : length (ss ++ s ∷ []) ≡ suc (length ss) = omega (arith, length-append ss (s ∷ [])) in
           rw (append_snoc, l) (a.judges e (s ∷ left) ∙ rw (step_held ss s a.inside hold stay))
 
-  through : (ss qs : List Step) → Accepted all (ss ++ qs) → Reached rs all ss → Reached rs all (ss ++ qs)
+  through : (ss qs : List Step) → Accepted rs (ss ++ qs) → Reached n rs ss → Reached n rs (ss ++ qs)
   through ss [] h a = rw append-nil a
   through ss (s ∷ qs) h a =
       let p = h ss qs s refl in
       rw append_snoc at (through (ss ++ s ∷ []) qs (rw append_snoc h) (one_more ss s a p.0 p.1))
 
-  stops : {e : Ending} {ss left : List Step} {said : Said} → broken_word rs (after_all all ss).words ≡ Nowhere → Ends all e ss left said → (i : ℕ)
-      → judge_all rs i (after_all all ss) left e ≡ record { said = said; steps = i; configuration = after_all all ss }
+  stops : {e : Ending} {ss left : List Step} {said : Said} → broken_word rs (after_all n rs ss).words ≡ None → Ends rs e ss left said → (i : ℕ)
+      → judge_all rs i (after_all n rs ss) left e ≡ record { said = said; steps = i; configuration = after_all n rs ss }
   unfolding judge_all after_step
   stops inside at_end i = refl
-  stops {ss = ss} inside (fails {s} f) i = rw (step_fails ss s f) (ap (λ (l : ℕ). record { said = violated l s.time.0; steps = i; configuration = after_all all ss }) (line_found f))
+  stops {ss = ss} inside (fails {s} f) i = rw (step_fails ss s f) (ap (λ (l : ℕ). record { said = violated l s.time.0; steps = i; configuration = after_all n rs ss }) (line_found f))
   stops inside (past {s} h f) i = rw (step_past _ s inside h f) refl
 
 -- ---- where a run stops
@@ -218,41 +212,41 @@ split all e qs = split_more all e [] qs (λ before later s q. absurd (omega (ari
 -- from a table's start words, judging ends as the steps split
 module _ (b : Table) (p : table.Passes b) where
   room : length (records_of b) ≤ 64
-  room = omega (arith, length_slots b.count b.records, p.constraints)
+  room = p.constraints
 
-  reached : (ss : List Step) → Accepted b.records ss → Reached (records_of b) b.records ss
-  reached ss h = through 64 (records_of b) b.records room p.unused [] ss h (record { inside = p.words; judges = λ e left. refl })
+  reached : (ss : List Step) → Accepted (records_of b) ss → Reached 64 (records_of b) ss
+  reached ss h = through 64 (records_of b) room [] ss h (record { inside = p.words; judges = λ e left. refl })
 
-  pub judged_split : (e : Ending) (ss : List Step) (x : Split b.records e ss)
+  pub judged_split : (e : Ending) (ss : List Step) (x : Split (records_of b) e ss)
       → judge_all (records_of b) 0 (start_of b) ss e ≡ record { said = x.said; steps = length x.accepted; configuration = after b x.accepted }
   judged_split e ss x =
       let a = reached x.accepted x.held in
       ap (λ l. judge_all (records_of b) 0 (start_of b) l e) x.place
       ∙ a.judges e x.left
-      ∙ stops 64 (records_of b) b.records room p.unused a.inside x.ends (length x.accepted)
+      ∙ stops 64 (records_of b) room a.inside x.ends (length x.accepted)
 
   pub words_after : (ss : List Step) (s : Step) → (after b (ss ++ s ∷ [])).words ≡ moved (bits s.ticks) (records_of b) (after b ss).words
-  words_after = all_moved 64 (records_of b) b.records room p.unused
+  words_after = all_moved 64 (records_of b) room
 
-  pub accepted_in_range : (ss : List Step) → Accepted b.records ss → broken_word (records_of b) (map (word_after ss) b.records) ≡ Nowhere
+  pub accepted_in_range : (ss : List Step) → Accepted (records_of b) ss → broken_word (records_of b) (map (word_after ss) (slots 64 (records_of b))) ≡ None
   accepted_in_range ss h = (reached ss h).inside
 
   -- a step after accepted ones: it is held; a record, the first in table order, fails; a word, the first in table order, leaves its million
-  module _ (ss : List Step) (s : Step) (h : Accepted b.records ss) where
-    pub judged_on : Every (HoldsAt ss s) b.records → Every (StaysAt ss s) b.records
-        → judged (bits s.ticks) (records_of b) (after b ss) ≡ record { outcome = Held; configuration = after b (ss ++ s ∷ []) }
-    judged_on hold stay = step_held 64 (records_of b) b.records room p.unused ss s (reached ss h).inside hold stay
+  module _ (ss : List Step) (s : Step) (h : Accepted (records_of b) ss) where
+    pub judged_on : Every (HoldsAt ss s) (records_of b) → Every (StaysAt ss s) (records_of b)
+        → judged (bits s.ticks) (records_of b) (after b ss) ≡ record { outcome = Ok tt; configuration = after b (ss ++ s ∷ []) }
+    judged_on hold stay = step_held 64 (records_of b) room ss s (reached ss h).inside hold stay
 
-    pub judged_stop : {r : Constraint} (f : FirstWithout (HoldsAt ss s) b.records r)
-        → judged (bits s.ticks) (records_of b) (after b ss) ≡ record { outcome = Failed (place_of f); configuration = after b ss }
-    judged_stop f = step_fails 64 (records_of b) b.records room p.unused ss s f
+    pub judged_stop : {r : Constraint} (f : FirstWithout (HoldsAt ss s) (records_of b) r)
+        → judged (bits s.ticks) (records_of b) (after b ss) ≡ record { outcome = Err (Failed (place_of f)); configuration = after b ss }
+    judged_stop f = step_fails 64 (records_of b) room ss s f
 
-    pub judged_full : {r : Constraint} → Every (HoldsAt ss s) b.records → (f : FirstWithout (StaysAt ss s) b.records r)
-        → judged (bits s.ticks) (records_of b) (after b ss) ≡ record { outcome = PastMillion (place_of f); configuration = after b ss }
-    judged_full hold f = step_past 64 (records_of b) b.records room p.unused ss s (reached ss h).inside hold f
+    pub judged_full : {r : Constraint} → Every (HoldsAt ss s) (records_of b) → (f : FirstWithout (StaysAt ss s) (records_of b) r)
+        → judged (bits s.ticks) (records_of b) (after b ss) ≡ record { outcome = Err (PastMillion (place_of f)); configuration = after b ss }
+    judged_full hold f = step_past 64 (records_of b) room ss s (reached ss h).inside hold f
 
-  pub record_of_first : {P : Constraint → Type 0} {r : Constraint} (f : FirstWithout P b.records r) → record_at (records_of b) (length f.earlier) ≡ r
-  record_of_first f = record_found 64 (records_of b) b.records room p.unused f
+  pub record_of_first : {P : Constraint → Type 0} {r : Constraint} (f : FirstWithout P (records_of b) r) → record_at (records_of b) (length f.earlier) ≡ r
+  record_of_first f = record_found 64 (records_of b) room f
 
-  pub line_of_first : {P : Constraint → Type 0} {r : Constraint} (f : FirstWithout P b.records r) → line_of (records_of b) (place_of f) ≡ r.line.0
-  line_of_first f = line_found 64 (records_of b) b.records room p.unused f
+  pub line_of_first : {P : Constraint → Type 0} {r : Constraint} (f : FirstWithout P (records_of b) r) → line_of (records_of b) (place_of f) ≡ r.line.0
+  line_of_first f = line_found 64 (records_of b) room f

@@ -1,140 +1,151 @@
 -- The run step by step is the run: a step that a mark or the end closes, as one turn of what is left to complete and judge. Assumes nothing.
+use Rattle.std.specs.Prelude.{Option, Some, None, Ok, Err}
 use mathlib.Core.Path.{◌≡◌, refl, sym, ap, ◌∙◌}
-use mathlib.Core.Bool.{Bool, true, false, cond}
-use mathlib.Core.List.{List, ◌∷◌}
+use mathlib.Core.Bool.{true≢false}
+use Rattle.std.specs.Result.{is_err}
+use mathlib.Core.List.{List}
 use Prim.Native.Nat.{ℕ, suc, ◌+◌, ◌≤◌}
 use native.Mathlib.Numerals.{add-one}
 use native.Mathlib.Omega.{arith}
 use lib.ListN.{length}
 use Rattle.limit.specs.Limit.{number_of}
 use Rattle.constraint.specs.Implicit.{completed}
-use Rattle.constraint.specs.Lists.{broken_word}
+use Rattle.constraint.specs.Lists.{slots, start_words, broken_word}
+use Rattle.constraint.specs.Million.{first_past}
 use Rattle.constraint.specs.Ticks.{Ticks, bits}
-use Rattle.constraint.specs.declared.Broken.TheVariants.{Nowhere}
+use Rattle.limit.specs.declared.Place.{Place}
+use Rattle.constraint.specs.declared.Clocks.{Clocks}
+use Rattle.constraint.specs.declared.Configuration.{Configuration}
 use Rattle.constraint.specs.declared.Constraint.{Constraint}
 use Rattle.constraint.proofs.ImplicitLaws.{completed_none}
 use Rattle.constraint.proofs.TickSets.{bits_zero}
 use Rattle.judging.proofs.StepLaws.{judged_none}
-use Rattle.grammar.specs.Building.{clocks_in}
+use Rattle.grammar.specs.Building.{clocks_in, constraints_in}
+use Rattle.judging.specs.Code.{Ready}
+use Rattle.constraint.specs.declared.Word.{Word}
 use Rattle.grammar.specs.declared.Table.{Table}
 use Rattle.table.specs.Reader as table
-use Rattle.limit.specs.declared.Check.TheVariants.{Passed, Refused as Unread}
-use Rattle.table.specs.declared.TableRead.{TableRead}
 use Rattle.table.proofs.TableVerdict.{every_table_passes}
 use Rattle.limit.specs.declared.Refusal.{Refusal}
-use Rattle.recording.specs.Body.{unmarked, Ending, Reading, ends_with, closing, onward, body_steps, reading}
+use Rattle.recording.specs.Body.{Ending, ended, refused_at, Reading, ends_with, closing, onward, body_steps, reading}
 use Rattle.limit.specs.Checked.{passed}
-use Rattle.recording.specs.Answers.{header_as}
 use Rattle.recording.specs.Header.{words, Header, opened}
-use Rattle.recording.specs.Index.{declared}
-use Rattle.recording.specs.Variables.{naming_in}
-use Rattle.recording.specs.declared.HeaderRead.{HeaderRead}
+use Rattle.recording.specs.Variables.{Naming, naming_in}
+use Rattle.recording.proofs.FewSteps.{few_steps}
 use Rattle.recording.proofs.HeaderLaws.{opened_within}
 use Rattle.recording.specs.declared.Step.{Step}
 use Rattle.recording.specs.declared.UnknownNames.{UnknownNames}
 use Rattle.run.specs.Complete.{complete_all}
-use Rattle.run.specs.StepByStep.{goes_on, verdict_of, Progress, after, begins, judge_on, over}
+use Rattle.run.specs.StepByStep.{verdict_of, after, judge_on, came_to}
 use Rattle.run.specs.Run.{ending_said, after_step, judge_all, refused, records_of, start_of, zeros, ran, completed_for, run_table, with_table, run_of}
-use Rattle.judging.specs.Step.{judged}
-use Rattle.judging.specs.declared.Judged.{Judged}
-use Rattle.judging.specs.declared.Outcome.{Outcome}
-use Rattle.judging.specs.declared.Outcome.TheVariants.{Held, Failed, PastMillion}
-use Rattle.run.specs.declared.Verdict.{Verdict}
-use Rattle.run.specs.declared.Verdict.TheVariants.{Accepted}
+use Rattle.judging.specs.Single.{all_ticks}
+use Rattle.judging.specs.Step.{Judged, judged_as, first_failing, moved, handed_back, judged}
+use Rattle.judging.specs.declared.NotHeld.{NotHeld}
+use Rattle.judging.specs.declared.NotHeld.TheVariants.{Failed, PastMillion}
+use Rattle.run.specs.declared.whole_run.Progress.{Progress}
+use Rattle.run.specs.declared.Verdict.TheVariants.{Refused}
 use Rattle.judging.proofs.StepLaws.{judged_in_range}
 use Rattle.run.proofs.CompleteLaws.{judge_rest, one_step}
+
+-- ---- a run starts ready
+pub ready : (b : Table) (p : table.Passes b) (k : Clocks) (rs : List Constraint) (c : Configuration) → k ≡ clocks_in b → rs ≡ constraints_in b → c.words ≡ start_words (slots 64 rs) → Ready k rs c.words
+ready b p k rs c e q w = rw (w, q, e) (record { room = p.constraints; fit = p.records; inside = p.words })
 
 -- ---- no step is left
 
 pub none_left : (named : ℕ) (rs : List Constraint) (b : Progress) (e : Ending)
     → judge_on named rs b (ends_with e) ≡ record { said = ending_said e; steps = b.steps; configuration = b.configuration }
-unfolding judge_all complete_all
+unfolding judge_on judge_all complete_all
 none_left named rs b e = refl
 
--- ---- a step that is closed
+pub ended_on : (named : ℕ) (rs : List Constraint) (b : Progress) → judge_on named rs b (ends_with ended) ≡ came_to (Ok tt) b
+ended_on named rs b = none_left named rs b ended
 
--- the run goes on after the step o, from d: the words are in range, there is at most one step more, and what is left to judge is what was
-pub record Goes (named : ℕ) (rs : List Constraint) (b : Progress) (o : Step) (d : Progress) : Type 0 where
-  pub ready : broken_word rs d.configuration.words ≡ Nowhere
-  pub few : d.steps ≤ b.steps + 1
-  pub left : (g : Reading) → judge_on named rs b (closing o g) ≡ judge_on named rs d g
+pub refused_on : (named : ℕ) (rs : List Constraint) (b : Progress) (f : Refusal) → judge_on named rs b (ends_with (refused_at f.limit f.place.0)) ≡ came_to (Err (Refused f)) b
+refused_on named rs b f = none_left named rs b (refused_at f.limit f.place.0)
 
-module _ (named : ℕ) (rs : List Constraint) (b : Progress) (o : Step) where
-  -- no mark has begun it
-  pub unbegun_goes : o.begun ≡ false → broken_word rs b.configuration.words ≡ Nowhere → Goes named rs b o b
-  unfolding closing
-  unbegun_goes e inside = record { ready = inside; few = omega arith; left = λ g. rw e }
+-- ---- a step that is closed, and the judging of it
 
-  -- it is judged, with the verdict v
-  module _ (e : o.begun ≡ true) (j : Judged) (q : j ≡ judged (bits (completed named rs b.configuration.words o.ticks)) rs b.configuration) where
-    abbrev next : Progress
-    next = after (b.steps + 1) j.configuration
+-- without ticks every record holds, and no word moves
+pub quiet : (clocks : Clocks) (rs : List Constraint) (c : Configuration) (f : ℕ) → f ≡ 0 → broken_word rs c.words ≡ None → judged_as (Ok tt) c ≡ judged (all_ticks clocks rs c.words f) rs c
+quiet clocks rs c f q inside =
+    let none-ticks = ap (λ (g : ℕ). bits (completed clocks.named rs c.words g)) q ∙ ap bits (completed_none clocks.named rs c.words) ∙ bits_zero in
+    sym (ap (λ (G : Ticks). judged G rs c) none-ticks ∙ judged_none rs c inside)
 
-    module _ (v : Verdict) (w : v ≡ verdict_of rs o j.outcome) where
-      judged_left : (g : Reading) → judge_on named rs b (closing o g) ≡ cond (goes_on v) (judge_on named rs next g) (over v b)
-      unfolding closing
-      judged_left g =
-          ap (λ (x : Bool). judge_on named rs b (cond x (record { steps = o ∷ g.steps; ending = g.ending }) g)) e
-          ∙ one_step named rs g.ending b.steps b.configuration o g.steps
-          ∙ rw (← q, w) (go j.outcome)
-        where
-          go : (p : Outcome)
-              → after_step rs b.steps o p b.configuration j.configuration (λ d. judge_rest named rs g.ending (suc b.steps) d g.steps)
-              ≡ cond (goes_on (verdict_of rs o p)) (judge_on named rs next g) (over (verdict_of rs o p) b)
-          go Held = unfold after_step in rw (add-one b.steps)
-          go (Failed p) = unfold after_step in refl
-          go (PastMillion p) = unfold after_step in refl
+module _ (named : ℕ) (rs : List Constraint) (b : Progress) (s : Step) where
+  abbrev F : Ticks
+  F = bits (completed named rs b.configuration.words s.ticks)
 
-      pub judged_goes : goes_on v ≡ true → broken_word rs b.configuration.words ≡ Nowhere → Goes named rs b o next
-      judged_goes h inside = record { ready = rw q (judged_in_range _ rs b.configuration inside); few = omega arith; left = λ g. judged_left g ∙ rw h }
+  -- every record holds, and no word leaves its million: the run goes on from the configuration after it
+  pub taken : (c : Configuration) → judged_as (Ok tt) c ≡ judged F rs b.configuration → (g : Reading) → judge_on named rs b (closing (Some s) g) ≡ judge_on named rs (after (b.steps + 1) c) g
+  unfolding judge_on closing after_step
+  taken c q g = one_step named rs g.ending b.steps b.configuration s g.steps ∙ rw (← q, add-one b.steps)
 
-      pub judged_stops : goes_on v ≡ false → (g : Reading) → judge_on named rs b (closing o g) ≡ over v b
-      judged_stops h g = judged_left g ∙ rw h
+  -- it is not taken: the configuration stays, and the run is over
+  stays : (r : NotHeld) (c : Configuration) → judged_as (Err r) c ≡ judged F rs b.configuration → b.configuration ≡ c
+  unfolding judged
+  stays r c q = go (first_failing F 1 rs b.configuration.words) (first_past 1 rs (moved F rs b.configuration.words)) q
+    where
+      go : (f p : Option Place)
+          → judged_as (Err r) c ≡ handed_back Failed f b.configuration (handed_back PastMillion p b.configuration (record { outcome = Ok tt; configuration = record { words = moved F rs b.configuration.words } }))
+          → b.configuration ≡ c
+      go (Some i) p e = sym (ap (λ (j : Judged). j.configuration) e)
+      go None (Some i) e = sym (ap (λ (j : Judged). j.configuration) e)
+      go None None e = absurd (true≢false (ap (λ (j : Judged). is_err j.outcome) e))
 
-  -- without ticks every record holds, and no word moves
-  pub quiet_goes : o.begun ≡ true → o.ticks ≡ 0 → broken_word rs b.configuration.words ≡ Nowhere
-      → Goes named rs b o (after (b.steps + 1) b.configuration)
-  quiet_goes e q inside =
-      let none-ticks = ap (λ (f : ℕ). bits (completed named rs b.configuration.words f)) q ∙ ap bits (completed_none named rs b.configuration.words) ∙ bits_zero in
-      let held = ap (λ (F : Ticks). judged F rs b.configuration) none-ticks ∙ judged_none rs b.configuration inside in
-      judged_goes e _ (sym held) Accepted refl refl inside
+  pub stopped : (r : NotHeld) (c : Configuration) → judged_as (Err r) c ≡ judged F rs b.configuration → (g : Reading) → judge_on named rs b (closing (Some s) g) ≡ came_to (Err (verdict_of rs s r)) (after b.steps c)
+  unfolding judge_on closing after_step
+  stopped r c q g = one_step named rs g.ending b.steps b.configuration s g.steps ∙ rw (← q, ← stays r c q) (go r)
+    where
+      go : (r : NotHeld) → after_step rs b.steps s (Err r) b.configuration b.configuration (λ d. judge_rest named rs g.ending (suc b.steps) d g.steps) ≡ came_to (Err (verdict_of rs s r)) b
+      go (Failed p) = refl
+      go (PastMillion p) = refl
 
--- ---- the table and the header
+  -- the words stay in range
+  pub still_inside : (c : Configuration) → judged_as (Ok tt) c ≡ judged F rs b.configuration → broken_word rs b.configuration.words ≡ None → broken_word rs c.words ≡ None
+  still_inside c q inside = ap (λ (j : Judged). broken_word rs j.configuration.words) q ∙ judged_in_range F rs b.configuration inside
 
-module _ (t : List ℕ) (q : TableRead) (e : table.told q ≡ table.read_table t) where
-  module _ (o : q.outcome ≡ Passed) where
-    pub is_read : (table.read_table t).said ≡ table.read
-    is_read = ap (λ (x : table.Told). x.said) (sym e) ∙ ap table.said o
+-- ---- the table
 
-    pub is_table : (table.read_table t).table ≡ q.table
-    is_table = ap (λ (x : table.Told). x.table) (sym e)
+module _ (t : List ℕ) (b : Table) (e : table.told (Ok b) ≡ table.read_table t) where
+  pub is_read : (table.read_table t).said ≡ table.read
+  is_read = ap (λ (x : table.Told). x.said) (sym e)
 
-    pub table_passes : table.Passes q.table
-    table_passes = rw (← is_table) (every_table_passes t is_read)
+  pub is_table : (table.read_table t).table ≡ b
+  is_table = ap (λ (x : table.Told). x.table) (sym e)
 
-  module _ (r : List ℕ) (u : UnknownNames) where
-    pub table_refused : (f : Refusal) → q.outcome ≡ Unread f → run_of t r u ≡ record { said = refused (number_of f.limit) f.place.0; steps = 0; constraints = 0; configuration = zeros }
-    unfolding with_table
-    table_refused f o = rw (← e, o)
+  pub table_passes : table.Passes b
+  table_passes = rw (← is_table) (every_table_passes t is_read)
 
-    module _ (o : q.outcome ≡ Passed) where
-      table_read : run_of t r u ≡ run_table q.table (completed_for q.table (reading (naming_in t q.table.names u) r))
-      unfolding with_table
-      table_read = rw (is_read o) (ap (λ (b : Table). run_table b (completed_for b (reading (naming_in t b.names u) r))) (is_table o))
+  -- the run of what was read by it
+  pub table_read : (r : List ℕ) (u : UnknownNames)
+      → run_of t r u ≡ ran (length (records_of b)) (judge_on (clocks_in b).named (records_of b) (after 0 (start_of b)) (reading (naming_in t b.names u) r))
+  unfolding with_table judge_on
+  table_read r u = rw is_read (ap (λ (d : Table). run_table d (completed_for d (reading (naming_in t d.names u) r))) is_table)
 
-      module _ (h : HeaderRead) (k : header_as r h ≡ opened (naming_in t q.table.names u) r) where
-        pub header_refused : (f : Refusal) → h.outcome ≡ Unread f
-            → run_of t r u ≡ ran q.table.count (record { said = refused (number_of f.limit) f.place.0; steps = 0; configuration = start_of q.table })
-        unfolding onward judge_all complete_all
-        header_refused f p = table_read ∙ rw (← k, p)
+  -- with the constraints and the start in code
+  pub run_is : (r : List ℕ) (u : UnknownNames) (k : Clocks) (rs : List Constraint) (c : Configuration) → k ≡ clocks_in b → rs ≡ constraints_in b → c.words ≡ start_words (slots 64 rs)
+      → ran (length rs) (judge_on k.named rs (after 0 c) (reading (naming_in t b.names u) r)) ≡ run_of t r u
+  run_is r u k rs c e q w =
+      let s : c ≡ start_of b = ap (λ (ws : List Word). record { words = ws }) (rw q at w) in
+      rw (e, q, s) (sym (table_read r u))
 
-        module _ (p : h.outcome ≡ Passed) where
-          pub header_read : run_of t r u ≡ ran q.table.count (judge_on (clocks_in q.table).named (records_of q.table) (begins (start_of q.table)) (body_steps (declared h.variables) r unmarked (words r h.body)))
-          unfolding onward
-          header_read = table_read ∙ rw (← k, p)
+pub table_refused : (t r : List ℕ) (u : UnknownNames) (f : Refusal) → table.told (Err f) ≡ table.read_table t
+    → run_of t r u ≡ record { said = refused (number_of f.limit) f.place.0; steps = 0; constraints = 0; configuration = zeros }
+unfolding with_table
+table_refused t r u f e = rw (← e)
 
-          pub header_within : length r ≤ 65_536
-          header_within =
-              let g : Header = record { variables = declared h.variables; body = words r h.body } in
-              let s : header_as r h ≡ passed g = rw p in
-              opened_within _ r g (sym k ∙ s)
+-- ---- the recording
+
+-- behind a header that was read stand the steps of the body
+pub reading_is : (g : Naming) (r : List ℕ) (h : Header) → passed h ≡ opened g r → body_steps h.variables r None h.body ≡ reading g r
+unfolding onward
+reading_is g r h e = rw (← e)
+
+-- at most 65,536 of them
+pub few_steps_in : (g : Naming) (r : List ℕ) (h : Header) (at : ℕ) → passed h ≡ opened g r → length (body_steps h.variables r None (words r at)).steps ≤ 65_536
+few_steps_in g r h at e = omega (arith, opened_within g r h (sym e), few_steps h.variables r at)
+
+pub one_fewer : (s : Step) (g h : Reading) → h ≡ closing (Some s) g → length h.steps ≡ 1 + length g.steps
+unfolding closing
+one_fewer s g h e = ap (λ (x : Reading). length x.steps) e ∙ omega arith

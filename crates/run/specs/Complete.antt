@@ -12,7 +12,7 @@ use Rattle.judging.specs.Step.{moved}
 
 -- a step with another tick set
 abbrev pub with_set : (ticks : ℕ) → Step → Step
-with_set f s = record { begun = s.begun; mark = s.mark; time = s.time; ticks = f }
+with_set f s = record { mark = s.mark; time = s.time; ticks = f }
 
 -- every step completed, and every word moved by it for the next
 unfoldable pub complete_all : (named : ℕ) → List Constraint → List Word → List Step → List Step

@@ -4,6 +4,7 @@ use Rattle.std.specs.Prelude.{◌≡◌, true, cond, List, [], ◌∷◌, ◌++�
 use Rattle.limit.specs.Limit.{number_of}
 use Rattle.limit.specs.declared.Limit.TheVariants.{Million}
 use Rattle.limit.specs.declared.Place.{Place}
+use Rattle.constraint.specs.Lists.{slots}
 use Rattle.constraint.specs.Meaning.{holds, next_word, start}
 use Rattle.constraint.specs.Ticks.{bits}
 use Rattle.constraint.specs.declared.Configuration.{Configuration}
@@ -65,7 +66,7 @@ pub data Ends (rs : List Constraint) (ending : Ending) (accepted : List Step) : 
 
 -- the configuration after accepted steps
 abbrev pub after : Table → List Step → Configuration
-after b ss = record { words = map (word_after ss) b.records }
+after b ss = record { words = map (word_after ss) (slots 64 (records_of b)) }
 
 -- a step of the run, asked as a single step on the table's records: it is handed as it was recorded, and works out the other ticks itself
 abbrev pub step_on : Table → Configuration → Step → StepTold
@@ -92,7 +93,7 @@ pub record Judges (b : Table) (g : Reading) (told : Told) : Type 0 where
   pub held : Accepted b.records accepted
   pub ends : Ends b.records g.ending accepted left told.said
   pub count : told.steps ≡ length accepted
-  pub constraints : told.constraints ≡ b.count
+  pub constraints : told.constraints ≡ length (records_of b)
   pub words : told.configuration ≡ after b accepted
   pub single : SingleSteps b accepted left told.said
 

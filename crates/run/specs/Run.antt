@@ -1,6 +1,6 @@
 -- The whole run: the table is read, then the recording, its steps are completed, and judged one after the other, up to the first that is not
 -- accepted (document 01, "What the monitor does", "Recording" and "Where each refusal is checked"; document 02, M-101 and M-103). Assumes nothing.
-use Rattle.std.specs.Prelude.{◌≡◌, refl, List, [], ◌∷◌, ℕ, suc, ◌-◌, ℤ, pos, get_or, replicate}
+use Rattle.std.specs.Prelude.{◌≡◌, refl, List, [], ◌∷◌, ℕ, suc, ◌-◌, ℤ, pos, get_or, replicate, length, Result, Ok, Err}
 use Rattle.limit.specs.Limit.{number_of}
 use Rattle.limit.specs.declared.Limit.TheVariants.{BodyWord, Million}
 use Rattle.limit.specs.declared.Place.{Place}
@@ -11,17 +11,16 @@ use Rattle.constraint.specs.Ticks.{bits}
 use Rattle.constraint.specs.declared.Configuration.{Configuration}
 use Rattle.constraint.specs.declared.Constraint.{Constraint}
 use Rattle.table.specs.Reader as table
-use Rattle.grammar.specs.Building.{clocks_in}
+use Rattle.grammar.specs.Building.{clocks_in, constraints_in}
 use Rattle.grammar.specs.declared.Table.{Table}
 use Rattle.recording.specs.Body.{Ending, ended, refused_at, Reading, reading}
 use Rattle.recording.specs.Variables.{naming_in}
 use Rattle.recording.specs.declared.Step.{Step}
 use Rattle.recording.specs.declared.UnknownNames.{UnknownNames}
 use Rattle.judging.specs.Single.{example_records}
-use Rattle.judging.specs.Step.{judged}
-use Rattle.judging.specs.declared.Judged.{Judged}
-use Rattle.judging.specs.declared.Outcome.{Outcome}
-use Rattle.judging.specs.declared.Outcome.TheVariants.{Held, Failed, PastMillion}
+use Rattle.judging.specs.Step.{Judged, judged}
+use Rattle.judging.specs.declared.NotHeld.{NotHeld}
+use Rattle.judging.specs.declared.NotHeld.TheVariants.{Failed, PastMillion}
 use Rattle.run.specs.Complete.{complete_all, mark, nested_steps}
 use Rattle.run.specs.declared.Report.{Report}
 use Rattle.run.specs.declared.Verdict.{Verdict}
@@ -71,10 +70,10 @@ pub record Judging : Type 0 where
   pub configuration : Configuration
 
 -- n steps were accepted; in a whole run 51 has the step's mark offset as its place
-unfoldable pub after_step : List Constraint → (n : ℕ) → Step → Outcome → (before after : Configuration) → (Configuration → Judging) → Judging
-after_step rs n s Held b a onward = onward a
-after_step rs n s (Failed p) b a onward = record { said = violated (line_of rs p) s.time.0; steps = n; configuration = b }
-after_step rs n s (PastMillion p) b a onward = record { said = refused (number_of Million) s.mark.0; steps = n; configuration = b }
+unfoldable pub after_step : List Constraint → (n : ℕ) → Step → Result (Unit {0}) NotHeld → (before after : Configuration) → (Configuration → Judging) → Judging
+after_step rs n s (Ok u) b a onward = onward a
+after_step rs n s (Err (Failed p)) b a onward = record { said = violated (line_of rs p) s.time.0; steps = n; configuration = b }
+after_step rs n s (Err (PastMillion p)) b a onward = record { said = refused (number_of Million) s.mark.0; steps = n; configuration = b }
 
 unfoldable pub judge_all : List Constraint → (n : ℕ) → Configuration → List Step → Ending → Judging
 judge_all rs n c [] e = record { said = ending_said e; steps = n; configuration = c }
@@ -84,11 +83,12 @@ judge_all rs n c (s ∷ ss) e =
 
 -- ---- the run
 
+-- a table's constraints, and the start words of 64 slots, those behind the constraints being empty
 abbrev pub records_of : Table → List Constraint
-records_of t = slots t.count t.records
+records_of = constraints_in
 
 abbrev pub start_of : Table → Configuration
-start_of t = record { words = start_words t.records }
+start_of t = record { words = start_words (slots 64 (records_of t)) }
 
 abbrev pub zeros : Configuration
 zeros = record { words = replicate 64 (word (pos 0)) }
@@ -113,7 +113,7 @@ reading_by t r u = completed_for (table_of t) (recorded_by t r u)
 
 -- the run of what was read by a table
 abbrev pub run_table : Table → Reading → Told
-run_table b g = ran b.count (judge_all (records_of b) 0 (start_of b) g.steps g.ending)
+run_table b g = ran (length (records_of b)) (judge_all (records_of b) 0 (start_of b) g.steps g.ending)
 
 -- a refused table: no records, 64 zero words, 0 steps
 unfoldable pub with_table : table.Said → (run : Told) → Told

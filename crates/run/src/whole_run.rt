@@ -1,130 +1,110 @@
-// The whole run: the table, the recording's header, and its body step by step.
-ghost use Rattle.std.specs.Prelude.{◌≡◌, ◌+◌, ◌≤◌, ◌<◌, ◌^◌, length};
-ghost use Rattle.constraint.specs.Lists.{slots};
+// The whole run: the table, the recording's header, and its steps one by one.
+ghost use Rattle.std.specs.Prelude.{◌≡◌, ◌+◌, ◌≤◌, ◌<◌, ◌^◌, get_or, length};
+ghost use Rattle.constraint.specs.Lists.{empty, start_words, slots};
 ghost use Rattle.grammar.specs.Building.{clocks_in};
 ghost use Rattle.judging.specs.Code.{Ready};
-ghost use Rattle.recording.specs.Body.{body_steps, closing, ended, ends_with, unmarked};
-ghost use Rattle.recording.specs.Header.{words};
-ghost use Rattle.recording.specs.Index.{Indexed, declared};
+ghost use Rattle.judging.specs.Single.{all_ticks};
+ghost use Rattle.judging.specs.Step.{judged_as, judged};
+ghost use Rattle.recording.specs.Answers.{naming_of};
+ghost use Rattle.recording.specs.Body.{reading};
+ghost use Rattle.recording.specs.Left.{steps_left};
 ghost use Rattle.run.specs.StepByStep as f;
 ghost use Rattle.run.specs.Run as s;
+ghost use Rattle.table.specs.Reader.{Passes};
 
-use super::step_by_step::{goes_on, verdict_of};
-use super::{Report, Steps, Verdict};
-use constraint::{Clocks, Configuration, Constraint, Word};
+use super::{Report, Steps as Count, Verdict};
+use constraint::{Clocks, Configuration, Constraint, TickSet, Word};
 use grammar::Table;
-use judging::judge;
-use limit::Check;
-use recording::{ChangesRead, Step, Turn, UnknownNames, Variables};
+use judging::{NotHeld, judge};
+use limit::{Limit, Place};
+use recording::{Naming, Step, Steps, UnknownNames, read_header};
+
+// The table line of the record at a place, from 1.
+fn line_of(records: &[Constraint], place: Place) -> Place
+    ensures { result.0 ≡ s.line_of records.now place }
+{
+    match records.get(place.0.saturating_sub(1)) {
+        Some(constraint) => constraint.line,
+        None => Place(0),
+    }
+}
+
+// The verdict on a step that is not taken.
+fn verdict_of(records: &[Constraint], step: Step, reason: NotHeld) -> Verdict
+    ensures { result ≡ f.verdict_of records.now step reason }
+{
+    match reason {
+        NotHeld::Failed(place) => Verdict::Violated(line_of(records, place), step.time),
+        NotHeld::PastMillion(_) => Verdict::Refused(Limit::Million.at(step.mark)),
+    }
+}
 
 // A table's clocks.
-fn clocks_in(table: Table) -> Clocks
-    requires { (clocks_in table).count ≤ 32 }
-    ensures { result ≡ clocks_in table }
+fn clocks_of(table: &Table) -> Clocks
+    requires { (clocks_in table.now).count ≤ 32 }
+    ensures { result ≡ clocks_in table.now }
 {
     Clocks {
-        named: table.names.count as u8,
-        count: (table.names.count + table.implicit) as u8,
+        named: table.names.len() as u8,
+        count: (table.names.len() + table.implicit) as u8,
     }
 }
 
-// What a run gives that is over.
-fn report(count: usize, verdict: Verdict, steps: u64, configuration: Configuration) -> Report
-    ensures { s.told result ≡ s.ran count (f.over verdict (f.after steps configuration)) }
-{
-    Report {
-        verdict,
-        steps: Steps(steps),
-        constraints: count,
-        configuration,
-    }
-}
-
-// What a run gives at the end of its recording, which closes the last step, where a mark has begun one.
-fn judge_last(
-    records: [Constraint; 64],
-    count: usize,
+// Judges the ticks of a step. Without any every record holds, and no word moves.
+#[tactic(auto, using(crate::proofs::RunLaws::quiet))]
+fn judge_ticks(
+    records: &[Constraint],
     clocks: Clocks,
-    configuration: Configuration,
+    configuration: &mut Configuration,
+    ticks: TickSet,
+) -> Result<(), NotHeld>
+    requires { Ready clocks records.now configuration.old.words }
+    ensures { judged_as result configuration.new ≡ judged (all_ticks clocks records.now configuration.old.words ticks) records.now configuration.old }
+{
+    if ticks == TickSet::EMPTY {
+        return Ok(());
+    }
+    judge(records, clocks, configuration, ticks)
+}
+
+// What was judged so far: the number of accepted steps, and the configuration after them.
+#[derive(Clone, Copy)]
+struct Progress {
     steps: u64,
-    last: Step,
-) -> Report
-    requires { Ready clocks records count configuration.words × (steps + 1 < 2 ^ 64) }
-    ensures { s.told result ≡ s.ran count (f.judge_on clocks.named (slots count records) (f.after steps configuration) (closing last (ends_with ended))) }
-{
-    if !last.begun {
-        return report(count, Verdict::Accepted, steps, configuration);
-    }
-    let judged = judge(records, count, clocks, configuration, last.ticks);
-    let outcome = judged.outcome;
-    let verdict = verdict_of(records, count, last, outcome);
-    if !goes_on(verdict) {
-        return report(count, verdict, steps, configuration);
-    }
-    report(count, Verdict::Accepted, steps + 1, judged.configuration)
+    configuration: Configuration,
 }
 
-// The body of a recording from an offset on, judged from a configuration.
-fn judge_body(
-    recording: &[u8],
-    from: usize,
-    variables: Variables,
-    records: [Constraint; 64],
-    count: usize,
-    clocks: Clocks,
-    configuration: Configuration,
-) -> Report
-    requires { (length recording.now ≤ 65536) × Indexed variables × Ready clocks records count configuration.words }
-    ensures { s.told result ≡ s.ran count (f.judge_on clocks.named (slots count records) (f.begins configuration) (body_steps (declared variables) recording.now unmarked (words recording.now from))) }
-{
-    // The configuration after the accepted steps, and their number.
-    let mut reached = configuration;
-    let mut steps: u64 = 0;
-    let mut step = recording::unmarked();
-    let mut at = from;
-    loop {
-        let read = recording::read_changes(
-            recording,
-            &variables.ids,
-            &variables.clocks,
-            variables.count,
-            &variables.starts,
-            step,
-            at,
-        );
-        match read {
-            ChangesRead::Refused(refusal) => {
-                return report(count, Verdict::Refused(refusal), steps, reached);
-            }
-            ChangesRead::End(last) => {
-                return judge_last(records, count, clocks, reached, steps, last);
-            }
-            ChangesRead::Mark(closed, mark) => {
-                if closed.begun {
-                    // Without ticks every record holds, and no word moves.
-                    if closed.ticks != 0 {
-                        let judged = judge(records, count, clocks, reached, closed.ticks);
-                        let outcome = judged.outcome;
-                        let verdict = verdict_of(records, count, closed, outcome);
-                        if !goes_on(verdict) {
-                            return report(count, verdict, steps, reached);
-                        }
-                        reached = judged.configuration;
-                    }
-                    steps += 1;
-                }
-                let turn = recording::read_mark(recording, closed, mark);
-                match turn {
-                    Turn::Refused(refusal) => {
-                        return report(count, Verdict::Refused(refusal), steps, reached);
-                    }
-                    Turn::Passed(begun) => {
-                        step = begun;
-                        at = mark.end;
-                    }
-                }
-            }
+impl Progress {
+    // Judges a step, and counts it where it is accepted; else the verdict says what it is.
+    #[tactic(auto, using(crate::proofs::RunLaws::taken, crate::proofs::RunLaws::stopped, crate::proofs::RunLaws::still_inside))]
+    fn take(&mut self, records: &[Constraint], clocks: Clocks, step: Step) -> Result<(), Verdict>
+        requires { Ready clocks records.now self.old.configuration.words × (self.old.steps + 1 < 2 ^ 64) }
+        ensures { f.Takes clocks.named records.now self.old step result self.new }
+    {
+        if let Err(reason) = judge_ticks(records, clocks, &mut self.configuration, step.ticks) {
+            return Err(verdict_of(records, step, reason));
         }
+        self.steps += 1;
+        Ok(())
+    }
+
+    // Judges the steps of a recording, as far as they are accepted; what ends that before the recording's end is the verdict.
+    #[tactic(auto, using(crate::proofs::RunLaws::refused_on, crate::proofs::RunLaws::ended_on, crate::proofs::RunLaws::few_steps_in), unfolding(recording::specs::Body::onward))]
+    fn judge<'a>(
+        &mut self,
+        records: &[Constraint],
+        clocks: Clocks,
+        naming: Naming<'a>,
+        recording: &[u8],
+    ) -> Result<(), Verdict>
+        requires { Ready clocks records.now self.old.configuration.words × (self.old.steps ≡ 0) }
+        ensures { f.came_to result self.new ≡ f.judge_on clocks.named records.now self.old (reading (naming_of naming.entry) recording.now) }
+    {
+        let header = read_header(naming, recording)?;
+        for step in Steps::new(&header.variables, header.body) {
+            self.take(records, clocks, step?)?;
+        }
+        Ok(())
     }
 }
 
@@ -133,37 +113,39 @@ fn judge_body(
 pub fn run(table: &[u8], recording: &[u8], unknown: UnknownNames) -> Report
     ensures { s.told result ≡ s.run_of table.now recording.now unknown }
 {
-    let read = table::read_table(table);
-    let outcome = read.outcome;
-    if let Check::Refused(refusal) = outcome {
-        return report(
-            0,
-            Verdict::Refused(refusal),
-            0,
-            Configuration {
-                words: [Word(0); 64],
+    match table::read_table(table) {
+        Err(refusal) => Report {
+            verdict: Verdict::Refused(refusal),
+            steps: Count(0),
+            constraints: 0,
+            configuration: Configuration {
+                words: [Word {
+                    first: 0,
+                    second: 0,
+                }; 64],
             },
-        );
+        },
+        Ok(read) => {
+            let records = read.constraints();
+            let naming = Naming {
+                table,
+                names: &read.names,
+                unknown,
+            };
+            let mut progress = Progress {
+                steps: 0,
+                configuration: Configuration::start(records),
+            };
+            let verdict = match progress.judge(records, clocks_of(&read), naming, recording) {
+                Ok(()) => Verdict::Accepted,
+                Err(verdict) => verdict,
+            };
+            Report {
+                verdict,
+                steps: Count(progress.steps),
+                constraints: records.len(),
+                configuration: progress.configuration,
+            }
+        }
     }
-    let records = read.table.records;
-    let configuration = constraint::start_words(records);
-    let header = recording::read_header(table, read.table.names, recording, unknown);
-    let opened = header.outcome;
-    if let Check::Refused(refusal) = opened {
-        return report(
-            read.table.count,
-            Verdict::Refused(refusal),
-            0,
-            configuration,
-        );
-    }
-    judge_body(
-        recording,
-        header.body,
-        header.variables,
-        records,
-        read.table.count,
-        clocks_in(read.table),
-        configuration,
-    )
 }

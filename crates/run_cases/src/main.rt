@@ -5,100 +5,49 @@
 
 use recording::UnknownNames;
 use std::io;
-use std::rt::{Env, Files};
-use text::Span;
+use std::rt::Files;
 
-// A file's name without its ending of four bytes.
+// A file's name without its ending of four bytes; the whole name where it has fewer.
 fn stem(name: &[u8]) -> &[u8] {
-    if name.len() < 4 {
-        return name;
+    match name.len().checked_sub(4) {
+        Some(end) => &name[..end],
+        None => name,
     }
-    text::part(
-        name,
-        Span {
-            start: 0,
-            end: name.len() - 4,
-        },
-    )
 }
 
-// Prints the report of a table and a recording.
+// Prints a recording's name, and the report of its run against a table.
 fn case<R: Files + Print>(
     rt: &R,
     errors: &impl Print,
-    table_name: &[u8],
-    recording_name: &[u8],
+    table: &[u8],
+    recording: &[u8],
     unknown: UnknownNames,
 ) -> io::Result<()> {
-    let mut table = [0u8; 4097];
-    let mut recording = [0u8; 65537];
-    let n = console::read_file(rt, errors, table_name, &mut table);
-    let m = console::read_file(rt, errors, recording_name, &mut recording);
-    console::say(rt, stem(recording_name))?;
-    console::say(rt, b"\n")?;
-    console::say_report(rt, run::run(&table[..n], &recording[..m], unknown))
+    let report = console::judge_files(rt, errors, table, recording, unknown);
+    rt.write_all(stem(recording))?;
+    rt.write_all(b"\n")?;
+    console::print_report(rt, &report)
 }
 
-// Runs the case of two arguments.
-fn arguments<R: Env + Files + Print>(
+// Runs the recordings of the names two by two, a table and a recording; a last one without another is left over.
+fn cases<R: Files + Print>(
     rt: &R,
     errors: &impl Print,
-    i: usize,
-    j: usize,
+    names: &[Vec<u8>],
     unknown: UnknownNames,
 ) -> io::Result<()> {
-    let mut table = [0u8; 4096];
-    let mut recording = [0u8; 4096];
-    let n = console::argument(rt, i, &mut table);
-    let m = console::argument(rt, j, &mut recording);
-    case(rt, errors, &table[..n], &recording[..m], unknown)
-}
-
-// Runs the arguments from one on, up to another, two by two.
-fn cases<R: Env + Files + Print>(
-    rt: &R,
-    errors: &impl Print,
-    from: usize,
-    to: usize,
-    unknown: UnknownNames,
-) -> io::Result<()> {
-    let mut i = from;
-    while i < to {
-        if to - i < 2 {
-            return Ok(());
-        }
-        arguments(rt, errors, i, i + 1, unknown)?;
-        i += 2;
+    for pair in names.chunks_exact(2) {
+        case(rt, errors, &pair[0], &pair[1], unknown)?;
     }
     Ok(())
 }
 
-// Whether an argument is `--strict`.
-fn is_strict(rt: &impl Env, i: usize) -> bool {
-    let mut word = [0u8; 4096];
-    let n = console::argument(rt, i, &mut word);
-    text::same_bytes(&word[..n], b"--strict")
-}
-
-// The first of the arguments that is `--strict`; their number where none is.
-fn strict_from(rt: &impl Env, count: usize) -> usize {
-    let mut i: usize = 1;
-    while i < count {
-        if is_strict(rt, i) {
-            return i;
-        }
-        i += 1;
-    }
-    count
-}
-
 fn main(rt: HostRuntime) -> io::Result<()> {
     let errors = rt.stderr();
-    let count = console::argument_count(&rt);
-    let strict = strict_from(&rt, count);
-    cases(&rt, &errors, 1, strict, UnknownNames::Ignored)?;
-    if strict < count {
-        cases(&rt, &errors, strict + 1, count, UnknownNames::Refused)?;
+    let arguments = console::arguments(&rt, rt.alloc())?;
+    let parts = arguments.splitn(2, |word| word.as_slice() == b"--strict".as_slice());
+    for (names, unknown) in parts.zip([UnknownNames::Ignored, UnknownNames::Refused]) {
+        cases(&rt, &errors, names, unknown)?;
     }
     Ok(())
 }

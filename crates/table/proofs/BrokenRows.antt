@@ -27,7 +27,7 @@ use Rattle.forms.proofs.Said.{said}
 use Rattle.table.specs.Reader.{any_word, long_name, bad_number, bad_list, twice, many_clocks}
 use Rattle.table.proofs.ClocksDefined.{Marks, marked_row}
 use Rattle.table.proofs.LineRows.{byte_row, long_row, number_row, list_rows, Again, twice_row}
-use Rattle.table.proofs.NamesListed.{listed, clock_is}
+use Rattle.table.proofs.NamesListed.{clock_is}
 
 -- ---- each check is passed exactly where its row is not broken
 module _ (above : List Line) (l : Line) where
@@ -98,14 +98,14 @@ module _ (above : List Line) (l : Line) where
       let z : ◌≡◌ {A = ℕ} 0 1 = cc in
       omega arith
 
-  module _ (F : Ticks) (m : Marks above F) (t : List ℕ) (ns : Names) (i : Inner) (k : Keeps (clock_names above) (said t (listed ns))) (few : length (clock_names above) ≤ 32) where
+  module _ (F : Ticks) (m : Marks above F) (t : List ℕ) (ns : Names) (i : Inner) (k : Keeps (clock_names above) (said t ns.spans)) (few : length (clock_names above) ≤ 32) where
     row_defines : (c : Word) → DefinesClock c l → (F (clock_named t ns c) ≡ true) ↔ Breaks above l DefinedTwice
     row_defines c d = rw (clock_is t ns c) (λ e. defined_above d (row.0 e), from)
       where
-        row : (F (cond (one_of (said t (listed ns)) c) (standing (said t (listed ns)) c) 32) ≡ true) ↔ Some (DefinesClock c) above
-        row = marked_row above F m (said t (listed ns)) k few c
+        row : (F (cond (one_of (said t ns.spans) c) (standing (said t ns.spans) c) 32) ≡ true) ↔ Some (DefinesClock c) above
+        row = marked_row above F m (said t ns.spans) k few c
 
-        from : Breaks above l DefinedTwice → F (cond (one_of (said t (listed ns)) c) (standing (said t (listed ns)) c) 32) ≡ true
+        from : Breaks above l DefinedTwice → F (cond (one_of (said t ns.spans) c) (standing (said t ns.spans) c) 32) ≡ true
         from (defined_above {c = w} p s) = row.1 (subst (λ (v : Word). Some (DefinesClock v) above) (one_defined w c p d) s)
 
     pub row_16 : (f : Form Operand) → HasForm l f → (any F (defined_of (form_of t ns i f).constraint) ≡ true) ↔ Breaks above l DefinedTwice
@@ -119,17 +119,17 @@ module _ (above : List Line) (l : Line) where
 
   -- ---- 17 and 18
   module _ (full : Filled l) where
-    module _ (ns : Names) (i : Inner) (over : ns.over ≡ ltb 32 (length (clock_names (above ++ l ∷ [])))) (all : ns.over ≡ false → ns.count ≡ length (clock_names (above ++ l ∷ [])))
+    module _ (ns : Names) (i : Inner) (over : ns.over ≡ ltb 32 (length (clock_names (above ++ l ∷ [])))) (all : ns.over ≡ false → length ns.spans ≡ length (clock_names (above ++ l ∷ [])))
         (counted : i.clocks ≡ min 33 (pairs (above ++ l ∷ []))) where
       pub row_17 : (many_clocks ns i ≡ true) ↔ Breaks above l TableClocks
       row_17 = go ns.over refl
         where
-          go : (x : Bool) → ns.over ≡ x → ((x || leb 33 (ns.count + i.clocks)) ≡ true) ↔ Breaks above l TableClocks
+          go : (x : Bool) → ns.over ≡ x → ((x || leb 33 (length ns.spans + i.clocks)) ≡ true) ↔ Breaks above l TableClocks
           go true q = (λ e. too_many_clocks full (let h : 32 < length (clock_names (above ++ l ∷ [])) = ltb-true 32 _ (sym over ∙ q) in omega arith), λ b. refl)
-          go false q = (λ e. too_many_clocks full (omega (arith, leb-true 33 (ns.count + i.clocks) e, all q)), from)
+          go false q = (λ e. too_many_clocks full (omega (arith, leb-true 33 (length ns.spans + i.clocks) e, all q)), from)
             where
-              from : Breaks above l TableClocks → leb 33 (ns.count + i.clocks) ≡ true
-              from (too_many_clocks f h) = le-leb 33 (ns.count + i.clocks) (omega (arith, all q))
+              from : Breaks above l TableClocks → leb 33 (length ns.spans + i.clocks) ≡ true
+              from (too_many_clocks f h) = le-leb 33 (length ns.spans + i.clocks) (omega (arith, all q))
 
     pub one_more : constraints (above ++ l ∷ []) ≡ constraints above + suc (pairs_in (words_of l))
     one_more = constraints_more above l ∙ ap (λ (k : ℕ). constraints above + k) (go (words_of l) full)

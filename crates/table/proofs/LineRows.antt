@@ -5,12 +5,11 @@ use mathlib.Core.Path.{◌≡◌, refl, sym, ap, ◌∙◌}
 use mathlib.Core.Logic.{◌↔◌}
 use mathlib.Core.Bool.{Bool, true, false, not, cond, ◌&&◌, ◌||◌, true≢false, false≢true}
 use mathlib.Core.List.{List, [], ◌∷◌, ◌++◌, map}
-use Prim.Native.Nat.{ℕ, suc, ◌-◌, ◌≤◌, ◌<◌}
+use Prim.Native.Nat.{ℕ, ◌-◌, ◌≤◌, ◌<◌}
 use native.Mathlib.Omega.{arith}
 use borrow.Author.Tests.{ltb-true, lt-ltb, leb-true, leb-false, eqb-true, eqb-false, not-true}
 use lib.Dec.{leb, ltb, eqb}
 use lib.ListN.{length}
-use Rattle.constraint.specs.Meaning.{packed}
 use Rattle.constraint.proofs.Booleans.{and_l, and_r}
 use Rattle.text.specs.Ascii.{ascii}
 use Rattle.text.specs.Bytes.{in_class, all_bytes, same_bytes}
@@ -28,13 +27,13 @@ use Rattle.forms.proofs.SomeLaws.{or_true, any_of, some_row}
 use Rattle.forms.proofs.Said.{said}
 use Rattle.forms.proofs.SoundForms.{list_row}
 use Rattle.forms.proofs.WordLaws.{digits_is, name_is}
-use Rattle.grammar.specs.Grammar.{number_up_to, await_number, delay_numbers, all_delays, is_list, listed}
+use Rattle.grammar.specs.Grammar.{number_up_to, await_number, delay_numbers, is_list, listed}
 use Rattle.grammar.specs.Tokens.{is, token_of, look_up}
 use Rattle.grammar.specs.declared.Token.{Token}
 use Rattle.grammar.specs.declared.Token.TheVariants.{Name, Digits, Await, For}
 use Rattle.grammar.proofs.TokenLaws.{told_apart}
 use Rattle.table.specs.Reader.{any_word, same_as, long_name, bad_number, bad_list, twice}
-use Rattle.table.proofs.ReaderLaws.{or_none, or_assoc}
+use mathlib.Core.Bool.{or-false, or_assoc}
 use Rattle.forms.proofs.ClockNames.{same_turned, has, found}
 
 -- ---- 11
@@ -93,7 +92,7 @@ abbrev bad_in : Words → Bool
 bad_in = found_in Await (λ ws. eqb (await_number (first ws)) 0)
 
 abbrev bad_list_in : Words → Bool
-bad_list_in = found_in For (λ ws. eqb (listed (runs_of ws)) 0)
+bad_list_in = found_in For (λ ws. eqb (length (listed (runs_of ws))) 0)
 
 abbrev outside : ℕ → Bool
 outside n = eqb (cond (leb n 1_000_000) n 0) 0
@@ -109,26 +108,24 @@ outside_row n = go (leb n 1_000_000) refl (eqb n 0) refl
         (λ d. absurd (true≢false (sym d ∙ e)), λ f. absurd (f (omega arith) h))
     go false q y e = let h : 1_000_000 < n = leb-false n 1_000_000 q in (λ _ j k. omega arith, λ f. refl)
 
--- a list that is in range is kept as a number that is not 0
+-- a list that is in range has a number
 abbrev outside_list : List ℕ → Bool
-outside_list ns = eqb (listed ns) 0
+outside_list ns = eqb (length (listed ns)) 0
 
-some_packed : (ns : List ℕ) → is_list ns ≡ true → packed ns ≡ 0 → ⊥
-some_packed [] e z = false≢true e
-some_packed (n ∷ ns) e z =
-    let h : (leb 1 n && leb n 32) ≡ true = and_l (leb 1 n && leb n 32) (all_delays ns) (and_r (leb 1 (suc (length ns)) && leb (suc (length ns)) 8) (all_delays (n ∷ ns)) e) in
-    omega (arith, leb-true 1 n (and_l (leb 1 n) (leb n 32) h))
+some_number : (ns : List ℕ) → is_list ns ≡ true → length ns ≡ 0 → ⊥
+some_number [] e z = false≢true e
+some_number (n ∷ ns) e z = omega arith
 
 outside_list_lem : (ns : List ℕ) → (outside_list ns ≡ true) ↔ ListOutside ns
 outside_list_lem ns = go (is_list ns) refl (list_row ns)
   where
-    go : (x : Bool) → is_list ns ≡ x → (is_list ns ≡ false) ↔ ListOutside ns → (eqb (cond x (packed ns) 0) 0 ≡ true) ↔ ListOutside ns
-    go true e r = (λ z. absurd (some_packed ns e (eqb-true (packed ns) 0 z)), λ o. absurd (true≢false (sym e ∙ r.1 o)))
+    go : (x : Bool) → is_list ns ≡ x → (is_list ns ≡ false) ↔ ListOutside ns → (eqb (length (cond x ns [])) 0 ≡ true) ↔ ListOutside ns
+    go true e r = (λ z. absurd (some_number ns e (eqb-true (length ns) 0 z)), λ o. absurd (true≢false (sym e ∙ r.1 o)))
     go false e r = (λ z. r.0 e, λ o. refl)
 
 any_append : {A : Type 0} (p : A → Bool) (xs ys : List A) (z : Bool) → (any_of p (xs ++ ys) || z) ≡ (any_of p xs || (any_of p ys || z))
 any_append p [] ys z = refl
-any_append p (x ∷ xs) ys z = sym (or_assoc (p x) (any_of p (xs ++ ys)) z) ∙ ap (λ (b : Bool). p x || b) (any_append p xs ys z) ∙ or_assoc (p x) (any_of p xs) (any_of p ys || z)
+any_append p (x ∷ xs) ys z = or_assoc (p x) (any_of p (xs ++ ys)) z ∙ ap (λ (b : Bool). p x || b) (any_append p xs ys z) ∙ sym (or_assoc (p x) (any_of p xs) (any_of p ys || z))
 
 unfoldable bad_counted : Counts bad_in
 unfolding look_up same_bytes
@@ -166,7 +163,7 @@ adds_bad : (x : Operand) (z : Bool) → adds bad_in bad_counted x z ≡ (any_of 
 unfolding bad_counted
 adds_bad (name w) z = refl
 adds_bad (both_inside k x y) z = either_any outside (operand_numbers x) (operand_numbers y) _ _ z (adds_bad x (adds bad_in bad_counted y z)) (adds_bad y z)
-adds_bad (awaits_inside n x) z = ap (λ (b : Bool). outside n || b) (adds_bad x z) ∙ or_assoc (outside n) (any_of outside (operand_numbers x)) z
+adds_bad (awaits_inside n x) z = ap (λ (b : Bool). outside n || b) (adds_bad x z) ∙ sym (or_assoc (outside n) (any_of outside (operand_numbers x)) z)
 adds_bad (delays_inside ns x y) z = either_any outside (operand_numbers x) (operand_numbers y) _ _ z (adds_bad x (adds bad_in bad_counted y z)) (adds_bad y z)
 
 adds_lists : (x : Operand) (z : Bool) → adds bad_list_in lists_counted x z ≡ (any_of outside_list (operand_lists x) || z)
@@ -177,17 +174,17 @@ adds_lists (awaits_inside n x) z = adds_lists x z
 adds_lists (delays_inside ns x y) z =
     let w : Bool = outside_list ns || z in
     either_any outside_list (operand_lists x) (operand_lists y ++ ns ∷ []) _ _ z (adds_lists x (adds bad_list_in lists_counted y w))
-    (either_any outside_list (operand_lists y) (ns ∷ []) _ _ z (adds_lists y w) (ap (λ (b : Bool). b || z) (sym (or_none (outside_list ns)))))
+    (either_any outside_list (operand_lists y) (ns ∷ []) _ _ z (adds_lists y w) (ap (λ (b : Bool). b || z) (sym (or-false (outside_list ns)))))
 
 form_bad : {ws : Words} {f : Form Operand} → IsForm (IsOperand levels) ws f → bad_in ws ≡ any_of outside (await_numbers f)
 unfolding found_in bad_counted
 form_bad {ws} {f} h = form_counts bad_in bad_counted levels ws f h ∙ go f
   where
     one : (x : Operand) → adds bad_in bad_counted x false ≡ any_of outside (operand_numbers x)
-    one x = adds_bad x false ∙ or_none (any_of outside (operand_numbers x))
+    one x = adds_bad x false ∙ or-false (any_of outside (operand_numbers x))
 
     two : (x y : Operand) → adds bad_in bad_counted x (adds bad_in bad_counted y false) ≡ any_of outside (operand_numbers x ++ operand_numbers y)
-    two x y = either_any outside (operand_numbers x) (operand_numbers y) _ _ false (adds_bad x (adds bad_in bad_counted y false)) (adds_bad y false) ∙ or_none (any_of outside (operand_numbers x ++ operand_numbers y))
+    two x y = either_any outside (operand_numbers x) (operand_numbers y) _ _ false (adds_bad x (adds bad_in bad_counted y false)) (adds_bad y false) ∙ or-false (any_of outside (operand_numbers x ++ operand_numbers y))
 
     go : (f : Form Operand) → adds_form bad_in bad_counted f false ≡ any_of outside (await_numbers f)
     go (relates k x y) = two x y
@@ -200,10 +197,10 @@ unfolding found_in lists_counted
 form_lists {ws} {f} h = form_counts bad_list_in lists_counted levels ws f h ∙ go f
   where
     one : (x : Operand) → adds bad_list_in lists_counted x false ≡ any_of outside_list (operand_lists x)
-    one x = adds_lists x false ∙ or_none (any_of outside_list (operand_lists x))
+    one x = adds_lists x false ∙ or-false (any_of outside_list (operand_lists x))
 
     go : (f : Form Operand) → adds_form bad_list_in lists_counted f false ≡ any_of outside_list (delay_lists f)
-    go (relates k x y) = either_any outside_list (operand_lists x) (operand_lists y) _ _ false (adds_lists x (adds bad_list_in lists_counted y false)) (adds_lists y false) ∙ or_none (any_of outside_list (operand_lists x ++ operand_lists y))
+    go (relates k x y) = either_any outside_list (operand_lists x) (operand_lists y) _ _ false (adds_lists x (adds bad_list_in lists_counted y false)) (adds_lists y false) ∙ or-false (any_of outside_list (operand_lists x ++ operand_lists y))
     go (defines c (both k x y)) = one (both_inside k x y)
     go (defines c (awaits n x)) = one (awaits_inside n x)
     go (defines c (delays ns x y)) = one (delays_inside ns x y)

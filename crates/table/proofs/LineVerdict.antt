@@ -37,7 +37,7 @@ use Rattle.forms.proofs.SplitWords.{Inside, inside_more, line_bytes, words_are, 
 use Rattle.table.specs.Reader.{any_word, long_name, bad_number, bad_list, twice, many_clocks, many_constraints, add_line, form_step, filled_step, blank, line_step}
 use Rattle.table.proofs.BrokenRows.{one_more, row_11, row_13, row_14, row_15, row_16, row_17, row_18, row_19, row_20, row_22}
 use Rattle.table.proofs.LineAdded.{Builds, Added, none_added, one_added, builds_on, blank_builds, number, form_made, form_builds}
-use Rattle.table.proofs.NamesListed.{listed, listed_length, Named, named_in, all_named}
+use Rattle.table.proofs.NamesListed.{listed_length, Named, named_in, all_named}
 use Rattle.table.proofs.Placing.{IsFormed, form_clocks}
 
 -- ---- what a check comes to; P is what a table has with the line
@@ -68,11 +68,11 @@ module _ (t : List ℕ) (a e n : ℕ) (h : a ≤ e) (k : e ≤ length t) (above 
   us = clock_names (above ++ l ∷ [])
 
   abbrev ns : Names
-  ns = with_words cut b.names ws
+  ns = with_words cut b.table.names ws
 
   -- before its first implicit clock
   abbrev first : Inner
-  first = no_inner b.implicit
+  first = no_inner b.table.implicit
 
   -- what the table has with it
   pub record Next (c : Builder) : Type 0 where
@@ -92,11 +92,11 @@ module _ (t : List ℕ) (a e n : ℕ) (h : a ≤ e) (k : e ≤ length t) (above 
   within : Inside e ws
   within = inside_more (length cut) e (omega (arith, cut_length)) ws (words_inside cut a (omega (arith, cut_length)))
 
-  before : Named cut e (clock_names above) (clock_names above) b.names
-  before = named_in t cut a e h (clock_names above) (clock_names above) b.names (sym (cut_same t e (listed b.names) (inside_more a e h (listed b.names) g.names.inside))) g.names
+  before : Named cut e (clock_names above) (clock_names above) b.table.names
+  before = named_in t cut a e h (clock_names above) (clock_names above) b.table.names (sym (cut_same t e b.table.names.spans (inside_more a e h b.table.names.spans g.names.inside))) g.names
 
   named : Named cut e (clock_names above) us ns
-  named = rw (names_more [] above l, ← words) (all_named cut e (clock_names above) (clock_names above) b.names before ws within)
+  named = rw (names_more [] above l, ← words) (all_named cut e (clock_names above) (clock_names above) b.table.names before ws within)
 
   few : length (clock_names above) ≤ 32
   few = ltb-false 32 (length (clock_names above)) (sym g.names.over ∙ g.few)
@@ -104,25 +104,25 @@ module _ (t : List ℕ) (a e n : ℕ) (h : a ≤ e) (k : e ≤ length t) (above 
   abbrev Comes : Checked Builder → Type 0
   Comes = Verdict Next above l n
 
-  all_named_once : ns.over ≡ false → ns.count ≡ length us
-  all_named_once o = sym (listed_length cut ns named.spans named.room) ∙ ap length (named.words o)
+  all_named_once : ns.over ≡ false → length ns.spans ≡ length us
+  all_named_once o = sym (listed_length cut ns) ∙ ap length (named.words o)
 
   module _ (full : Filled l) (f : Form Operand) (form : HasForm l f) where
     abbrev made : Formed Inner
     made = form_of cut ns first f
 
-    implicit_is : pairs (above ++ l ∷ []) ≡ b.implicit + form_implicits f
+    implicit_is : pairs (above ++ l ∷ []) ≡ b.table.implicit + form_implicits f
     implicit_is = pairs_more above l ∙ (λ i. sym g.implicit i + form_pairs levels form i)
 
     counted : made.left.clocks ≡ min 33 (pairs (above ++ l ∷ []))
-    counted = form_clocks cut ns f first b.implicit (few_implicit b.implicit (pairs above) g.implicit (length (clock_names above)) g.clocks) ∙ ap (min 33) (sym implicit_is)
+    counted = form_clocks cut ns f first b.table.implicit (few_implicit b.table.implicit (pairs above) g.implicit (length (clock_names above)) g.clocks) ∙ ap (min 33) (sym implicit_is)
       where
         few_implicit : (i p : ℕ) → i ≡ p → (k : ℕ) → k + p ≤ 32 → i ≡ min 33 i
         few_implicit i p e k h = omega arith
 
     -- there is no 33rd clock
     room : many_clocks ns made.left ≡ false → (ns.over ≡ false) × (length us + pairs (above ++ l ∷ []) ≤ 32)
-    room p17 = (o, fits ns.count made.left.clocks (pairs (above ++ l ∷ [])) (length us) (all_named_once o) counted (leb-false 33 (ns.count + made.left.clocks) (or_r ns.over _ p17)))
+    room p17 = (o, fits (length ns.spans) made.left.clocks (pairs (above ++ l ∷ [])) (length us) (all_named_once o) counted (leb-false 33 (length ns.spans + made.left.clocks) (or_r ns.over _ p17)))
       where
         o : ns.over ≡ false
         o = or_l ns.over _ p17
@@ -131,12 +131,12 @@ module _ (t : List ℕ) (a e n : ℕ) (h : a ≤ e) (k : e ≤ length t) (above 
         fits c i p u q r h = omega arith
 
     module _ (o : ns.over ≡ false) (most : length us + pairs (above ++ l ∷ []) ≤ 32) (p14 : any_word (bad_number cut) ws ≡ false) (p22 : any_word (bad_list cut) ws ≡ false) where
-      form_is : IsFormed cut ns us n (number cut e above l (clock_names above) ns named o) f first b.implicit
+      form_is : IsFormed cut ns us n (number cut e above l (clock_names above) ns named o) f first b.table.implicit
       form_is =
-          form_made cut e above l (clock_names above) ns named o n b.implicit f form
+          form_made cut e above l (clock_names above) ns named o n b.table.implicit f form
           (λ s. false≢true (sym p14 ∙ (row_14 above l cut ws words f form).1 (await_number_outside form s)))
           (λ s. false≢true (sym p22 ∙ (row_22 above l cut ws words f form).1 (delay_list_outside form s)))
-          (few_of (length us) (pairs (above ++ l ∷ [])) (b.implicit + form_implicits f) implicit_is most)
+          (few_of (length us) (pairs (above ++ l ∷ [])) (b.table.implicit + form_implicits f) implicit_is most)
         where
           few_of : (u p q : ℕ) → p ≡ q → u + p ≤ 32 → q ≤ 32
           few_of u p q e h = omega arith
@@ -144,19 +144,19 @@ module _ (t : List ℕ) (a e n : ℕ) (h : a ≤ e) (k : e ≤ length t) (above 
       -- 18
       line_fits : Clear above l (turn TableConstraints) → Comes (refuse_if (many_constraints b made.left) TableConstraints n (passed (with_line n b ns made.left made.constraint)))
       line_fits c18 =
-          check Next above l n (many_constraints b made.left) TableConstraints refl (row_18 above l full b.count made.left.count g.count (form_is.left.count ∙ sym (form_pairs levels form))) c18 _ (λ p18 c19. (
+          check Next above l n (many_constraints b made.left) TableConstraints refl (row_18 above l full (length b.table.records) (length made.left.definitions) g.count (form_is.left.count ∙ sym (form_pairs levels form))) c18 _ (λ p18 c19. (
             clear_last above l c19,
             record {
               records = rs ++ records_of us 32 n (pairs above) f;
               added = one_added form;
               builds =
                   subst (λ (k : ℕ). Builds t e (above ++ l ∷ []) (rs ++ records_of us 32 n k f) (with_line n b ns made.left made.constraint)) g.implicit
-                  (form_builds cut e above l (clock_names above) ns named o n t (cut_same t e (listed ns) named.inside) a rs b g f form form_is most (room_18 p18));
+                  (form_builds cut e above l (clock_names above) ns named o n t (cut_same t e ns.spans named.inside) a rs b g f form form_is most (room_18 p18));
             },
           ))
         where
           room_18 : many_constraints b made.left ≡ false → constraints (above ++ l ∷ []) ≤ 64
-          room_18 p18 = enough b.count made.left.count (constraints above) (pairs_in (words_of l)) g.count (form_is.left.count ∙ sym (form_pairs levels form)) (leb-false 64 (b.count + made.left.count) p18) (one_more above l full)
+          room_18 p18 = enough (length b.table.records) (length made.left.definitions) (constraints above) (pairs_in (words_of l)) g.count (form_is.left.count ∙ sym (form_pairs levels form)) (leb-false 64 (length b.table.records + length made.left.definitions) p18) (one_more above l full)
             where
               enough : (c i k p : ℕ) → c ≡ k → i ≡ p → c + i < 64 → {q : ℕ} → q ≡ k + suc p → q ≤ 64
               enough c i k p a b h e = omega arith

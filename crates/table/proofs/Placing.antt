@@ -4,21 +4,16 @@ use mathlib.Core.Path.{◌≡◌, refl, sym, ap, subst, ◌∙◌}
 use mathlib.Core.Bool.{Bool, true, false, cond}
 use mathlib.Core.List.{List, [], ◌∷◌, ◌++◌, map, map-append, append_assoc, append-nil}
 use Prim.Native.Nat.{ℕ, suc, ◌+◌, ◌≤◌, ◌<◌, min}
-use native.Mathlib.Numerals.{add-one}
 use native.Mathlib.Omega.{arith}
 use borrow.Author.Tests.{lt-ltb, ltb-true, ltb-false, lt-leb, leb-false}
 use lib.Dec.{ltb, leb}
-use lib.ListN.{length, take, set, length-set}
-use lib.Seq.{take-suc-set}
-use Rattle.constraint.specs.Meaning.{packed}
+use lib.ListN.{length, length-append}
 use Rattle.constraint.specs.declared.Constraint.{Constraint}
 use Rattle.constraint.specs.declared.Definition.{Definition}
 use Rattle.constraint.specs.declared.Definition.TheVariants.{Await as AwaitKind, Deferred}
 use Rattle.constraint.specs.declared.Kind.TheVariants.{Defines}
-use Rattle.constraint.specs.declared.Parameter.{Parameter}
-use Rattle.grammar.specs.Building.{defining, implied, whole, no_inner, provisional, counted, with_implicit, definitions, on_its_line}
+use Rattle.grammar.specs.Building.{defining, no_inner, provisional, counted, with_implicit, on_its_line}
 use Rattle.grammar.specs.Grammar.{Formed, sides, is_list, listed}
-use Rattle.grammar.specs.declared.Implied.{Implied}
 use Rattle.grammar.specs.declared.Inner.{Inner}
 use Rattle.grammar.specs.declared.Names.{Names}
 use Rattle.forms.specs.Forms.{Word, Words, one_of, both, awaits, delays, Form, relates, defines, Operand, name, both_inside, awaits_inside, delays_inside}
@@ -38,22 +33,22 @@ counted_one j m e = go (ltb j 33) refl
     go false q = let h : 33 ≤ j = ltb-false j 33 q in omega arith
 
 with_clocks : (s : Inner) (r : Constraint) → (with_implicit s r).clocks ≡ counted s.clocks
-with_clocks s r = go (leb 32 s.count)
+with_clocks s r = go (leb 32 (length s.definitions))
   where
-    go : (x : Bool) → (cond {A = Inner} x (record { clocks = counted s.clocks; records = s.records; count = s.count }) (record { clocks = counted s.clocks; records = set s.records s.count (implied (provisional s.clocks) r); count = s.count + 1 })).clocks ≡ counted s.clocks
+    go : (x : Bool) → (cond {A = Inner} x (record { clocks = counted s.clocks; definitions = s.definitions }) (record { clocks = counted s.clocks; definitions = s.definitions ++ defining (provisional s.clocks) r ∷ [] })).clocks ≡ counted s.clocks
     go true = refl
     go false = refl
 
-pair_clocks : (s : Inner) (d : Definition) (u v : ℕ) (n : Parameter) (m a b : ℕ) → s.clocks ≡ min 33 (m + a + b) → (with_implicit s (sides (Defines d) u v n)).clocks ≡ min 33 (m + suc (a + b))
-pair_clocks s d u v n m a b e = with_clocks s (sides (Defines d) u v n) ∙ counted_one _ (m + a + b) e ∙ omega arith
+pair_clocks : (s : Inner) (d : Definition) (u v : ℕ) (m a b : ℕ) → s.clocks ≡ min 33 (m + a + b) → (with_implicit s (sides (Defines d) u v)).clocks ≡ min 33 (m + suc (a + b))
+pair_clocks s d u v m a b e = with_clocks s (sides (Defines d) u v) ∙ counted_one _ (m + a + b) e ∙ omega arith
 
 module _ (t : List ℕ) (ns : Names) where
   placed_clocks : (x : Operand) (s : Inner) (m : ℕ) → s.clocks ≡ min 33 m → (placed t ns s x).left.clocks ≡ min 33 (m + implicits x)
   placed_clocks (name w) s m e = e ∙ omega arith
-  placed_clocks (both_inside k x y) s m e = pair_clocks (placed t ns (placed t ns s x).left y).left _ _ _ _ m (implicits x) (implicits y) (placed_clocks y (placed t ns s x).left (m + implicits x) (placed_clocks x s m e))
-  placed_clocks (delays_inside ms x y) s m e = pair_clocks (placed t ns (placed t ns s x).left y).left _ _ _ _ m (implicits x) (implicits y) (placed_clocks y (placed t ns s x).left (m + implicits x) (placed_clocks x s m e))
+  placed_clocks (both_inside k x y) s m e = pair_clocks (placed t ns (placed t ns s x).left y).left _ _ _ m (implicits x) (implicits y) (placed_clocks y (placed t ns s x).left (m + implicits x) (placed_clocks x s m e))
+  placed_clocks (delays_inside ms x y) s m e = pair_clocks (placed t ns (placed t ns s x).left y).left _ _ _ m (implicits x) (implicits y) (placed_clocks y (placed t ns s x).left (m + implicits x) (placed_clocks x s m e))
   placed_clocks (awaits_inside n x) s m e =
-      with_clocks (placed t ns s x).left (sides (Defines AwaitKind) (placed t ns s x).clock 0 (record { 0 = parameter_of n }))
+      with_clocks (placed t ns s x).left (sides (Defines (AwaitKind (parameter_of n))) (placed t ns s x).clock 0)
       ∙ counted_one _ (m + implicits x) (placed_clocks x s m e) ∙ omega arith
 
   pub form_clocks : (f : Form Operand) (s : Inner) (m : ℕ) → s.clocks ≡ min 33 m → (form_of t ns s f).left.clocks ≡ min 33 (m + form_implicits f)
@@ -84,7 +79,7 @@ abbrev KeptNumber : ℕ → Type 0
 KeptNumber k = parameter_of k ≡ k
 
 abbrev KeptList : List ℕ → Type 0
-KeptList ms = listed ms ≡ packed ms
+KeptList ms = listed ms ≡ ms
 
 -- of numbers and lists, those of one operand and of another
 pub record Kept (ks : List ℕ) (ls : List (List ℕ)) : Type 0 where
@@ -141,30 +136,26 @@ module _ (t : List ℕ) (ns : Names) (us : Words) (n : ℕ) (number : (w : Word)
   -- m implicit clocks so far, j of them the line's, with these definitions
   pub record Stands (s : Inner) (m j : ℕ) (ds : List Constraint) : Type 0 where
     pub clocks : s.clocks ≡ m
-    pub count : s.count ≡ j
+    pub count : length s.definitions ≡ j
     pub fewer : j ≤ m
-    pub room : length s.records ≡ 32
-    pub records : map (on_its_line n) (definitions s) ≡ ds
-    pub high : High (definitions s)
+    pub records : map (on_its_line n) s.definitions ≡ ds
+    pub high : High s.definitions
 
   pub stands_first : (m : ℕ) → Stands (no_inner m) m 0 []
-  stands_first m = record { clocks = refl; count = refl; fewer = omega arith; room = refl; records = refl; high = tt }
+  stands_first m = record { clocks = refl; count = refl; fewer = omega arith; records = refl; high = tt }
 
   -- one more
   with_stands : (s : Inner) (m j : ℕ) (ds : List Constraint) (r : Constraint) → Stands s m j ds → m < 32 → Stands (with_implicit s r) (m + 1) (j + 1) (ds ++ on_its_line n (defining (32 + m) r) ∷ [])
   with_stands s m j ds r h k =
-      let e : leb 32 s.count ≡ false = lt-leb 32 s.count (omega (arith, h.count, h.fewer)) in
+      let e : leb 32 (length s.definitions) ≡ false = lt-leb 32 (length s.definitions) (omega (arith, h.count, h.fewer)) in
       let c : ltb s.clocks 33 ≡ true = lt-ltb s.clocks 33 (omega (arith, h.clocks)) in
-      let i : Implied = implied (32 + s.clocks) r in
-      let d : definitions (record { clocks = s.clocks + 1; records = set s.records s.count i; count = s.count + 1 }) ≡ definitions s ++ whole i ∷ [] =
-      rw (add-one s.count) (ap (map whole) (take-suc-set s.records s.count i (omega (arith, h.count, h.fewer, h.room))) ∙ map-append whole (take s.count s.records) (i ∷ [])) in
+      let d : Constraint = defining (32 + s.clocks) r in
       rw (e, c) (record {
         clocks = ap (λ (i : ℕ). i + 1) h.clocks;
-        count = ap (λ (i : ℕ). i + 1) h.count;
+        count = length-append s.definitions (d ∷ []) ∙ ap (λ (i : ℕ). i + 1) h.count;
         fewer = omega (arith, h.fewer);
-        room = length-set s.records s.count _ ∙ h.room;
-        records = ap (map (on_its_line n)) d ∙ map-append (on_its_line n) (definitions s) (whole i ∷ []) ∙ rw (h.records, h.clocks);
-        high = subst High (sym d) (high_more (definitions s) (whole i) h.high (omega arith));
+        records = map-append (on_its_line n) s.definitions (d ∷ []) ∙ rw (h.records, h.clocks);
+        high = high_more s.definitions d h.high (omega arith);
       })
 
   -- ---- operands
@@ -197,12 +188,12 @@ module _ (t : List ℕ) (ns : Names) (us : Words) (n : ℕ) (number : (w : Word)
       let c : ltb m 33 ≡ true = lt-ltb m 33 (omega arith) in
       (rw (h.clocks, c), subst (Stands (enclosed f).left (m + 1) (j + 1)) (append_assoc ds es _ ∙ ap (λ (z : Constraint). ds ++ (es ++ z ∷ [])) e) (with_stands f.left m j (ds ++ es) f.constraint h k))
 
-  both_record : (d : Definition) (a b v w c k l : ℕ) → a ≡ v → b ≡ w → k ≡ l
-      → on_its_line n (defining c (sides (Defines d) a b (record { 0 = k }))) ≡ record { kind = Defines d; defined = c; first = v; second = w; parameter = record { 0 = l }; line = record { 0 = n } }
-  both_record d a b v w c k l p q r = rw (p, q, r)
+  both_record : (d e : Definition) (a b v w c : ℕ) → d ≡ e → a ≡ v → b ≡ w
+      → on_its_line n (defining c (sides (Defines d) a b)) ≡ record { kind = Defines e; defined = c; first = v; second = w; line = record { 0 = n } }
+  both_record d e a b v w c p q r = rw (p, q, r)
 
-  await_record : (a v c k l : ℕ) → a ≡ v → k ≡ l → on_its_line n (defining c (sides (Defines AwaitKind) a 0 (record { 0 = k }))) ≡ record { kind = Defines AwaitKind; defined = c; first = v; second = 0; parameter = record { 0 = l }; line = record { 0 = n } }
-  await_record a v c k l p q = both_record AwaitKind a 0 v 0 c k l p refl q
+  await_record : (a v c k l : ℕ) → a ≡ v → k ≡ l → on_its_line n (defining c (sides (Defines (AwaitKind k)) a 0)) ≡ record { kind = Defines (AwaitKind l); defined = c; first = v; second = 0; line = record { 0 = n } }
+  await_record a v c k l p q = both_record (AwaitKind k) (AwaitKind l) a 0 v 0 c (ap AwaitKind q) p refl
 
   abbrev Places : Operand → Type 0
   Places x = (s : Inner) (m j : ℕ) (ds : List Constraint) → AllOf us (operand_names x) → Kept (operand_numbers x) (operand_lists x) → m + implicits x ≤ 32 → Stands s m j ds → IsPlaced x s m j ds
@@ -216,17 +207,17 @@ module _ (t : List ℕ) (ns : Names) (us : Words) (n : ℕ) (number : (w : Word)
         both_placed x y s m j ds p q
 
     -- in parentheses, with a parameter
-    both_inside_stand : (d : Definition) (b c : ℕ) → b ≡ c → m + suc (implicits x + implicits y) ≤ 32
-        → (let e = enclosed (record { left = (placed t ns (placed t ns s x).left y).left; constraint = sides (Defines d) (placed t ns s x).clock (placed t ns (placed t ns s x).left y).clock (record { 0 = b }) }) in
+    both_inside_stand : (d c : Definition) → d ≡ c → m + suc (implicits x + implicits y) ≤ 32
+        → (let e = enclosed (record { left = (placed t ns (placed t ns s x).left y).left; constraint = sides (Defines d) (placed t ns s x).clock (placed t ns (placed t ns s x).left y).clock }) in
         (e.clock ≡ 32 + (m + (implicits x + implicits y)))
         × Stands e.left (m + suc (implicits x + implicits y)) (j + suc (implicits x + implicits y))
         (ds ++ ((operand_records us 32 n m x ++ operand_records us 32 n (m + implicits x) y)
-        ++ record { kind = Defines d; defined = 32 + (m + (implicits x + implicits y)); first = clock_of us 32 n m x; second = clock_of us 32 n (m + implicits x) y; parameter = record { 0 = c }; line = record { 0 = n } } ∷ [])))
-    both_inside_stand d b c q k =
+        ++ record { kind = Defines c; defined = 32 + (m + (implicits x + implicits y)); first = clock_of us 32 n m x; second = clock_of us 32 n (m + implicits x) y; line = record { 0 = n } } ∷ [])))
+    both_inside_stand d c q k =
         let r = rooms m (implicits x) (implicits y) k in
         let o = both_stand (omega arith) in
-        let f : Formed Inner = record { left = (placed t ns (placed t ns s x).left y).left; constraint = sides (Defines d) (placed t ns s x).clock (placed t ns (placed t ns s x).left y).clock (record { 0 = b }) } in
-        let e = inside_stands f (m + (implicits x + implicits y)) (j + (implicits x + implicits y)) ds _ _ r.2 (both_record d _ _ _ _ _ _ _ o.first o.second q) o.left in
+        let f : Formed Inner = record { left = (placed t ns (placed t ns s x).left y).left; constraint = sides (Defines d) (placed t ns s x).clock (placed t ns (placed t ns s x).left y).clock } in
+        let e = inside_stands f (m + (implicits x + implicits y)) (j + (implicits x + implicits y)) ds _ _ r.2 (both_record d c _ _ _ _ _ q o.first o.second) o.left in
         (e.0, stands_as _ _ _ _ _ _ _ (add_suc m (implicits x + implicits y)) (add_suc j (implicits x + implicits y)) refl e.1)
 
   placed_stands : (x : Operand) → Places x
@@ -235,17 +226,17 @@ module _ (t : List ℕ) (ns : Names) (us : Words) (n : ℕ) (number : (w : Word)
     left = stands_as s m (m + 0) j (j + 0) ds (ds ++ []) (sym (add_zero m)) (sym (add_zero j)) (sym (append-nil ds)) h;
   }
   placed_stands (both_inside d x y) s m j ds a i k h =
-      let e = both_inside_stand x y (placed_stands x) (placed_stands y) s m j ds a i h d 0 0 refl k in
+      let e = both_inside_stand x y (placed_stands x) (placed_stands y) s m j ds a i h d d refl k in
       record { clock = e.0; left = e.1 }
   placed_stands (awaits_inside l x) s m j ds a i k h =
       let r = room_one m (implicits x) k in
       let p = placed_stands x s m j ds a (record { numbers = i.numbers.1; lists = i.lists }) r.0 h in
-      let f : Formed Inner = record { left = (placed t ns s x).left; constraint = sides (Defines AwaitKind) (placed t ns s x).clock 0 (record { 0 = parameter_of l }) } in
+      let f : Formed Inner = record { left = (placed t ns s x).left; constraint = sides (Defines (AwaitKind (parameter_of l))) (placed t ns s x).clock 0 } in
       let e = inside_stands f (m + implicits x) (j + implicits x) ds _ _ r.1 (await_record _ _ _ _ _ p.clock i.numbers.0) p.left in
       record { clock = e.0; left = stands_as _ _ _ _ _ _ _ (add_suc m (implicits x)) (add_suc j (implicits x)) refl e.1 }
   placed_stands (delays_inside ms x y) s m j ds a i k h =
       let l = list_apart (operand_lists x) (operand_lists y) ms i in
-      let e = both_inside_stand x y (placed_stands x) (placed_stands y) s m j ds a l.0 h Deferred (listed ms) (packed ms) l.1 k in
+      let e = both_inside_stand x y (placed_stands x) (placed_stands y) s m j ds a l.0 h (Deferred (listed ms)) (Deferred ms) (ap Deferred l.1) k in
       record { clock = e.0; left = e.1 }
 
   -- ---- forms

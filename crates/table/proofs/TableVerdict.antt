@@ -12,10 +12,8 @@ use lib.ListN.{length, length-map}
 use Rattle.limit.specs.Checked.{Checked, passed, stopped, refuse_if, and_then}
 use Rattle.limit.specs.Limit.{number_of}
 use Rattle.limit.specs.declared.Limit.TheVariants.{TableLength}
-use Rattle.constraint.specs.Lists.{slots, broken_word, start_words}
 use Rattle.constraint.specs.declared.Constraint.{Constraint}
 use Rattle.constraint.proofs.OneMore.{start_passes}
-use Rattle.constraint.proofs.Slots.{length_slots, slots_map, slots_slots}
 use Rattle.constraint.proofs.TickSets.{bits_zero}
 use Rattle.text.specs.Bytes.{in_class}
 use Rattle.text.specs.Split.{bytes_of, pieces_at}
@@ -33,28 +31,27 @@ use Rattle.forms.proofs.FormWords.{form_names, form_pairs}
 use Rattle.forms.proofs.LinesPass.{lines_pass}
 use Rattle.forms.proofs.Said.{said}
 use Rattle.forms.proofs.SplitWords.{Ordered, ordered_to, lines_are, lines_ordered}
+use Rattle.std.specs.Prelude.{Ok}
 use Rattle.table.specs.Claims.{RefusedExactly, ReadExactly, ReadAs, RecordsAreForms}
 use Rattle.table.specs.Reader.{read, refused, Told, tell_of, told, read_lines, most_bytes, read_table, Passes, EveryTablePasses}
-use Rattle.table.specs.declared.TableRead.{TableRead}
 use Rattle.table.proofs.ClocksDefined.{Marks, no_marks}
 use Rattle.table.proofs.LineAdded.{Builds, builds_on, Added, none_added, one_added}
 use Rattle.table.proofs.LineVerdict.{Verdict, line_verdict}
-use Rattle.table.proofs.NamesListed.{listed, listed_length}
+use Rattle.table.proofs.NamesListed.{listed_length}
 use Rattle.table.proofs.Renumber.{records_renumbered}
 
 module _ (t : List ℕ) where
   -- ---- what a table that was read has, of lines from line n on, below k implicit clocks: the names us, and behind the records rs, renumbered,
   -- those of the lines; and how it is shaped
   record ReadOn (us : Words) (n k : ℕ) (ls : List Line) (rs : List Constraint) (table : Table) : Type 0 where
-    names : said t (listed table.names) ≡ us
-    named : table.names.count ≡ length us
+    names : said t table.names.spans ≡ us
+    named : length table.names.spans ≡ length us
     more : List Constraint
-    records : slots table.count table.records ≡ map (renumbered (length us)) rs ++ more
+    records : table.records ≡ map (renumbered (length us)) rs ++ more
     recorded : Recorded us n k ls more
     implicit : table.implicit ≡ k + pairs ls
     clocks : length us + (k + pairs ls) ≤ 32
-    constraints : table.count ≤ 64
-    unused : table.records ≡ slots 64 (slots table.count table.records)
+    constraints : length table.records ≤ 64
 
   abbrev After : (above : List Line) (n : ℕ) (ls : List Line) (rs : List Constraint) → Checked Table → Type 0
   After above n ls rs (passed table) = NothingBroken above ls × ReadOn (with_lines (clock_names above) ls) n (pairs above) ls rs table
@@ -82,7 +79,6 @@ module _ (t : List ℕ) where
       implicit = r.implicit ∙ same_pairs;
       clocks = rw (← same_pairs) r.clocks;
       constraints = r.constraints;
-      unused = r.unused;
     })
 
     read_on_lem : (n : ℕ) (rs qs : List Constraint) (table : Table) → Added (clock_names (above ++ l ∷ [])) n (pairs above) l rs qs
@@ -127,22 +123,15 @@ module _ (t : List ℕ) where
     names = g.names.words g.few;
     named = count;
     more = [];
-    records = records ∙ rw (count, append-nil);
+    records = ap (map (renumbered (length b.table.names.spans))) g.records ∙ rw (count, append-nil);
     recorded = no_line;
     implicit = g.implicit ∙ omega arith;
     clocks = omega (arith, g.clocks);
-    constraints = omega (arith, g.listed, g.most);
-    unused = all ∙ ap (slots 64) (sym records);
+    constraints = omega (arith, g.most, ap length g.records, length-map b.table.records (renumbered (length b.table.names.spans)));
   }
     where
-      count : b.names.count ≡ length (clock_names above)
-      count = sym (listed_length t b.names g.names.spans g.names.room) ∙ ap length (g.names.words g.few)
-
-      all : map (renumbered b.names.count) b.records ≡ slots 64 (map (renumbered b.names.count) rs)
-      all = ap (map (renumbered b.names.count)) g.records ∙ sym (slots_map (renumbered b.names.count) refl 64 rs)
-
-      records : slots b.count (map (renumbered b.names.count) b.records) ≡ map (renumbered b.names.count) rs
-      records = rw (all, g.listed, ← length-map rs (renumbered b.names.count)) (slots_slots 64 (map (renumbered b.names.count) rs) (omega (arith, g.most, length-map rs (renumbered b.names.count))))
+      count : length b.table.names.spans ≡ length (clock_names above)
+      count = sym (listed_length t b.table.names) ∙ ap length (g.names.words g.few)
 
   all_lines : (at n : ℕ) (above : List Line) (rs : List Constraint) (b : Builder) (ls : List Span) → Builds t at above rs b → Ordered at (length t) ls → After above n (said t ls) rs (read_lines t n b ls)
   unfolding read_lines NothingBroken with_lines pairs
@@ -156,11 +145,10 @@ module _ (t : List ℕ) where
   start_builds : Builds t 0 [] [] start
   unfolding with_lines pairs constraints
   start_builds = record {
-    names = record { spans = refl; room = omega arith; inside = tt; kept = keeps_same []; over = refl; words = λ e. refl };
+    names = record { room = omega arith; inside = tt; kept = keeps_same []; over = refl; words = λ e. refl };
     few = refl;
     count = refl;
     records = refl;
-    listed = refl;
     most = omega arith;
     marks = subst (Marks []) (sym bits_zero) no_marks;
     implicit = refl;
@@ -184,11 +172,10 @@ module _ (t : List ℕ) where
       let i : table.implicit ≡ pairs (lines_of t) = r.implicit ∙ omega arith in (
         record { names = r.names; records = rw r.records r.recorded; implicit = i },
         record {
-          records = rw (r.named, i, r.records) (lines_pass (lines_of t) r.more h r.recorded (omega (arith, r.clocks)) (omega (arith, r.constraints, ap length r.records, length_slots table.count table.records)));
-          words = ap (λ (rs : List Constraint). broken_word (slots table.count table.records) (start_words rs)) r.unused ∙ start_passes 1 64 (slots table.count table.records);
+          records = rw (r.named, i, r.records) (lines_pass (lines_of t) r.more h r.recorded (omega (arith, r.clocks)) (omega (arith, r.constraints, ap length r.records)));
+          words = start_passes 1 64 table.records;
           constraints = r.constraints;
           clocks = omega (arith, r.named, i, r.clocks);
-          unused = r.unused;
         },
       )
 
@@ -248,7 +235,7 @@ pub every_table_passes : EveryTablePasses
 unfolding read_table
 every_table_passes t e = (read_as t (refuse_if (ltb most_bytes (length t)) TableLength 0 (lines t)) (answer t) e).1
 
--- at most 32 clocks, none where the table is refused
-pub most_clocks : (t : List ℕ) (r : TableRead) → told r ≡ read_table t → (clocks_in r.table).count ≤ 32
+-- at most 32 clocks
+pub most_clocks : (t : List ℕ) (table : Table) → told (Ok table) ≡ read_table t → (clocks_in table).count ≤ 32
 unfolding read_table
-most_clocks t r e = subst (λ (u : Told). (clocks_in u.table).count ≤ 32) (sym e) (few_clocks t (refuse_if (ltb most_bytes (length t)) TableLength 0 (lines t)) (answer t))
+most_clocks t table e = subst (λ (u : Told). (clocks_in u.table).count ≤ 32) (sym e) (few_clocks t (refuse_if (ltb most_bytes (length t)) TableLength 0 (lines t)) (answer t))

@@ -1,7 +1,6 @@
 -- The claims on the reader of tables, by the text alone: it refuses exactly the tables that break a limit, with the number and the line of the
 -- one that is checked first; it reads exactly the others, and the records are then the forms of the lines. Assumes nothing.
-use Rattle.std.specs.Prelude.{◌≡◌, ◌↔◌, List, map, ℕ, take}
-use Rattle.constraint.specs.Lists.{slots}
+use Rattle.std.specs.Prelude.{◌≡◌, ◌↔◌, List, map, ℕ}
 use Rattle.text.specs.Split.{bytes_of}
 use Rattle.grammar.specs.declared.Table.{Table}
 use Rattle.forms.specs.Forms.{lines_of}
@@ -17,8 +16,8 @@ ReadExactly = (t : List ℕ) → (read_table t).said ≡ read ↔ TableReads t
 -- the names are those of the lines, numbered from 0 at first appearance; the records, in order, are the forms of the lines, each behind those of
 -- its inner right sides; and there are as many implicit clocks as pairs of parentheses
 pub record ReadAs (t : List ℕ) (table : Table) : Type 0 where
-  pub names : map (bytes_of t) (take table.names.count table.names.spans) ≡ clock_names (lines_of t)
-  pub records : Recorded (clock_names (lines_of t)) 1 0 (lines_of t) (slots table.count table.records)
+  pub names : map (bytes_of t) table.names.spans ≡ clock_names (lines_of t)
+  pub records : Recorded (clock_names (lines_of t)) 1 0 (lines_of t) table.records
   pub implicit : table.implicit ≡ pairs (lines_of t)
 
 abbrev pub RecordsAreForms : Type 0

@@ -1,15 +1,13 @@
 -- Lines in their order, each with its checks in theirs: document 01, "Table text" and the first two rows of "Where each refusal is
 -- checked". Assumes nothing.
-use Rattle.std.specs.Prelude.{◌≡◌, Bool, false, not, cond, ◌&&◌, ◌||◌, List, [], ◌∷◌, ℕ, ◌+◌, ◌≤◌, eqb, ltb, leb, length, take, drop}
+use Rattle.std.specs.Prelude.{◌≡◌, Bool, false, not, cond, ◌&&◌, ◌||◌, List, [], ◌∷◌, ℕ, ◌+◌, ◌≤◌, eqb, ltb, leb, length, take, drop, None, Result, Ok, Err}
 use Rattle.limit.specs.Checked.{Checked, passed, stopped, refuse_if, and_then}
 use Rattle.limit.specs.Limit.{number_of}
-use Rattle.limit.specs.declared.Check.{Check}
-use Rattle.limit.specs.declared.Check.TheVariants.{Passed, Refused}
+use Rattle.limit.specs.declared.Refusal.{Refusal}
 use Rattle.limit.specs.declared.Limit.TheVariants.{TableLength, LineByte, NestingDepth, Unpaired, LineForm, NameLength, AwaitNumber, DelayNumber, ClockTwice, DefinedTwice, TableClocks, TableConstraints}
 use Rattle.constraint.specs.Lists.{slots, broken_record, broken_word, start_words}
 use Rattle.constraint.specs.Meaning.{defined_of}
 use Rattle.constraint.specs.Ticks.{any, bits}
-use Rattle.constraint.specs.declared.Broken.TheVariants.{Nowhere}
 use Rattle.constraint.specs.declared.Constraint.{Constraint}
 use Rattle.text.specs.Bytes.{in_class, all_bytes, same_bytes}
 use Rattle.text.specs.Split.{bytes_of, pieces_at, front}
@@ -25,7 +23,6 @@ use Rattle.grammar.specs.declared.Inner.{Inner}
 use Rattle.grammar.specs.declared.Names.{Names}
 use Rattle.grammar.specs.declared.Table.{Table}
 use Rattle.grammar.specs.declared.Token.TheVariants.{Name, Await, For}
-use Rattle.table.specs.declared.TableRead.{TableRead}
 
 -- ---- what is asked of a word w of a line that has a form; ws are the words after it
 
@@ -47,7 +44,7 @@ bad_number t w ws = is Await (token_of (bytes_of t w)) && eqb (await_number (byt
 
 -- 22: list of delays out of range, none included
 abbrev pub bad_list : List ℕ → Span → List Span → Bool
-bad_list t w ws = is For (token_of (bytes_of t w)) && eqb (delay_list t ws) 0
+bad_list t w ws = is For (token_of (bytes_of t w)) && eqb (length (delay_list t ws)) 0
 
 -- 15: a clock named twice in the line
 abbrev pub twice : List ℕ → Span → List Span → Bool
@@ -57,11 +54,11 @@ twice t w ws = is Name (token_of (bytes_of t w)) && any_word (same_as t (bytes_o
 
 -- a 33rd clock, named or implicit
 abbrev pub many_clocks : Names → Inner → Bool
-many_clocks ns s = ns.over || leb 33 (ns.count + s.clocks)
+many_clocks ns s = ns.over || leb 33 (length ns.spans + s.clocks)
 
 -- 64 constraints stand before the line's own: those of the lines above, and the definitions of its implicit clocks
 abbrev pub many_constraints : Builder → Inner → Bool
-many_constraints b s = leb 64 (b.count + s.count)
+many_constraints b s = leb 64 (length b.table.records + length s.definitions)
 
 -- 16 the clock it defines already defined by an earlier line; 17 a 33rd clock; 18 a 65th constraint
 unfoldable pub add_line : ℕ → Builder → Names → Inner → Constraint → Checked Builder
@@ -83,7 +80,7 @@ form_step t n b ns ws (parsed f us) =
 
 -- the clocks are numbered in the order in which the words stand
 abbrev pub words_step : List ℕ → ℕ → Builder → List Span → Checked Builder
-words_step t n b ws = let ns : Names = with_words t b.names ws in form_step t n b ns ws (form_in t levels ns (no_inner b.implicit) ws)
+words_step t n b ws = let ns : Names = with_words t b.table.names ws in form_step t n b ns ws (form_in t levels ns (no_inner b.table.implicit) ws)
 
 -- 11 byte outside 32 to 126; 19 over sixteen parentheses stand open; 20 one has no partner. t is the text up to the line's end, from the line's
 -- start
@@ -117,17 +114,22 @@ abbrev pub tell_of : Checked Table → Told
 tell_of (passed b) = record { said = read; table = b }
 tell_of (stopped l p) = record { said = refused (number_of l) p; table = empty_table }
 
+-- how reading ended, in code
+abbrev pub said : Result (Unit {0}) Refusal → Said
+said (Ok u) = read
+said (Err r) = refused (number_of r.limit) r.place.0
+
 -- what the reader in code answers stands for
-abbrev pub said : Check → Said
-said Passed = read
-said (Refused r) = refused (number_of r.limit) r.place.0
+abbrev pub told : Result Table Refusal → Told
+told (Ok t) = record { said = read; table = t }
+told (Err r) = record { said = refused (number_of r.limit) r.place.0; table = empty_table }
 
--- the claim: no two values of the answer in code have one meaning
+-- the claims: no two values of the answer in code have one meaning
 abbrev pub SaidDetermines : Type 0
-SaidDetermines = (x y : Check) → said x ≡ said y → x ≡ y
+SaidDetermines = (x y : Result (Unit {0}) Refusal) → said x ≡ said y → x ≡ y
 
-abbrev pub told : TableRead → Told
-told r = record { said = said r.outcome; table = r.table }
+abbrev pub ToldDetermines : Type 0
+ToldDetermines = (x y : Result Table Refusal) → told x ≡ told y → x ≡ y
 
 -- line by line, from line n on
 unfoldable pub read_lines : List ℕ → ℕ → Builder → List Span → Checked Table
@@ -143,14 +145,12 @@ read_table t = tell_of (refuse_if (ltb most_bytes (length t)) TableLength 0 (rea
 
 -- ---- a theorem: the calls on records refuse nothing that the reader made
 
--- 59 lets a table's records pass with its clocks, and 60 their start words; there is room for both, and the slots behind the
--- records are empty
+-- 59 lets a table's records pass with its clocks, and 60 their start words; there is room for both
 pub record Passes (table : Table) : Type 0 where
-  pub records : broken_record (clocks_in table) (slots table.count table.records) ≡ Nowhere
-  pub words : broken_word (slots table.count table.records) (start_words table.records) ≡ Nowhere
-  pub constraints : table.count ≤ 64
-  pub clocks : table.names.count + table.implicit ≤ 32
-  pub unused : table.records ≡ slots 64 (slots table.count table.records)
+  pub records : broken_record (clocks_in table) table.records ≡ None
+  pub words : broken_word table.records (start_words (slots 64 table.records)) ≡ None
+  pub constraints : length table.records ≤ 64
+  pub clocks : length table.names.spans + table.implicit ≤ 32
 
 abbrev pub EveryTablePasses : Type 0
 EveryTablePasses = (t : List ℕ) → (read_table t).said ≡ read → Passes (read_table t).table

@@ -2,30 +2,23 @@
 // "Where each refusal is checked"; document 02, M-101 and M-105.
 #![tactic(auto)]
 
+mod checks;
+mod keys;
 mod reader;
+mod splitting;
 
-use constraint::Constraint;
-use grammar::{Inner, Names, Table};
-use limit::Check;
 pub use reader::read_table;
 
-// What reading a table answers. A refused table is empty.
-#[derive(Clone, Copy)]
-pub struct TableRead {
-    pub outcome: Check,
-    pub table: Table,
-}
-
-// Which of the checks 19 and 20 a line fails: over sixteen parentheses stand open; one has no partner.
-#[derive(Clone, Copy)]
+// Which of the checks 19 and 20 a line fails: over sixteen parentheses stand open; one has no partner. Flags, since one walk asks both.
+#[derive(Clone, Copy, Debug, PartialEq, Eq)]
 pub struct Pairing {
     pub deep: bool,
     pub unpaired: bool,
 }
 
 // Which of the checks 13, 14, 22 and 15 some words fail: a name over 16 bytes, an await number outside, a list of delays out of range, a clock
-// named twice.
-#[derive(Clone, Copy)]
+// named twice. Flags, since one walk asks all four.
+#[derive(Clone, Copy, Debug, PartialEq, Eq)]
 pub struct Flaws {
     pub long: bool,
     pub bad: bool,
@@ -33,19 +26,9 @@ pub struct Flaws {
     pub twice: bool,
 }
 
-// What is known, before 15 is asked word by word, of whether a name stands twice in a line.
+// The lines of a text from an offset on; past the text's end there is none.
 #[derive(Clone, Copy)]
-pub enum Repeats {
-    Perhaps,
-    Never,
-    Surely,
-}
-
-// What a line says: the first refusal, or its constraint, the names with those of the line, and its implicit clocks.
-#[derive(Clone, Copy)]
-pub struct LineRead {
-    pub outcome: Check,
-    pub names: Names,
-    pub inner: Inner,
-    pub constraint: Constraint,
+pub struct Lines<'a> {
+    pub text: &'a [u8],
+    pub at: usize,
 }

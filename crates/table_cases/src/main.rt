@@ -2,19 +2,28 @@
 // stands in `stdout`.
 #![tactic(auto)]
 
-mod file;
-mod form;
 mod show;
 
 use std::io;
+use std::rt::Files;
+
+// Prints a file's name, and what the reader answers to its bytes.
+fn case<R: Files + Print>(rt: &R, errors: &impl Print, name: &[u8]) -> io::Result<()> {
+    let mut buffer = [0u8; 4100];
+    let text = console::read_file(rt, errors, name, &mut buffer);
+    rt.write_all(name)?;
+    rt.write_all(b": ")?;
+    match table::read_table(text) {
+        Ok(table) => show::table(rt, text, &table),
+        Err(refusal) => rt.println(refusal),
+    }
+}
 
 // Reads the file of each argument, in order.
 fn main(rt: HostRuntime) -> io::Result<()> {
-    let n = console::argument_count(&rt);
-    let mut i: usize = 1;
-    while i < n {
-        file::argument(&rt, &rt.stderr(), i)?;
-        i += 1;
+    let names = console::arguments(&rt, rt.alloc())?;
+    for name in &names {
+        case(&rt, &rt.stderr(), name)?;
     }
     Ok(())
 }

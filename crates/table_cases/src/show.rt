@@ -1,140 +1,94 @@
-// What the reader of a table answers, as lines: the refusal, or the names of the clocks and the constraints.
+// The lines of a table that was read: its numbers, the names of its clocks, and its constraints.
 ghost use Rattle.std.specs.Prelude.{◌≤◌};
 ghost use Rattle.grammar.specs.Building.{clocks_in};
 
-use super::form::{is_delay, say_kind};
-use console::{say, say_field, say_refusal, say_word};
-use constraint::{Constraint, Kind, Parameter};
-use grammar::{Names, Table};
-use limit::{Check, Refusal};
-use std::io;
+use console::Part;
+use constraint::{Constraint, Definition, Kind, Relation};
+use grammar::Table;
+use std::{fmt, io};
 use text::Span;
 
-// The line of a refusal.
-fn refused(rt: &impl Print, refusal: Refusal) -> io::Result<()> {
-    say_refusal(rt, refusal)?;
-    say(rt, b"\n")
-}
-
-// The name of a clock, behind a space.
-fn name(rt: &impl Print, text: &[u8], span: Span) -> io::Result<()> {
-    say(rt, b" ")?;
-    say(rt, text::part(text, span))
-}
-
-// The names of the clocks.
-fn names(rt: &impl Print, text: &[u8], all: Names) -> io::Result<()> {
-    let count = all.count;
-    let mut i: usize = 0;
-    while i < count {
-        if 32 <= i {
-            return Ok(());
-        }
-        let span = all.spans[i];
-        name(rt, text, span)?;
-        i += 1;
+// The words of a form, or `empty`.
+fn words(kind: &Kind) -> &'static str {
+    match kind {
+        Kind::Empty => "empty",
+        Kind::Relates(Relation::Coincides) => "=",
+        Kind::Relates(Relation::Excludes) => "#",
+        Kind::Relates(Relation::SubClock) => "isSubClockOf",
+        Kind::Relates(Relation::StrictlyPrecedes) => "strictly precedes",
+        Kind::Relates(Relation::Precedes) => "precedes",
+        Kind::Defines(Definition::Union) => "clockUnion",
+        Kind::Defines(Definition::Inter) => "clockInter",
+        Kind::Defines(Definition::Lub) => "lub",
+        Kind::Defines(Definition::Glb) => "glb",
+        Kind::Defines(Definition::Await(_)) => "await",
+        Kind::Defines(Definition::StrictlySampled) => "strictly sampled",
+        Kind::Defines(Definition::Sampled) => "sampled",
+        Kind::Defines(Definition::Upto) => "upto",
+        Kind::Defines(Definition::Deferred(_)) => "deferred",
     }
-    Ok(())
+}
+
+// The number of an await, 0 for any other form, and behind that the list of a delay.
+#[derive(Clone, Copy, Debug)]
+struct Numbers<'a>(&'a Kind);
+
+impl<'a> fmt::Display for Numbers<'a> {
+    fn fmt<W: fmt::Write>(&self, f: &mut fmt::Formatter<W>) -> fmt::Result {
+        match self.0 {
+            Kind::Defines(Definition::Await(n)) => write!(f, "{n}"),
+            Kind::Defines(Definition::Deferred(list)) => {
+                write!(f, "0 for")?;
+                for n in list.as_slice() {
+                    write!(f, " {n}")?;
+                }
+                Ok(())
+            }
+            _ => write!(f, "0"),
+        }
+    }
+}
+
+// The line of a constraint: its table line, its form, its clocks, its number or list, and its start word.
+#[derive(Clone, Copy, Debug)]
+struct Line<'a>(&'a Constraint);
+
+impl<'a> fmt::Display for Line<'a> {
+    fn fmt<W: fmt::Write>(&self, f: &mut fmt::Formatter<W>) -> fmt::Result {
+        let one = self.0;
+        write!(f, "  {} {}", one.line, words(&one.kind))?;
+        write!(f, " c {} a {} b {}", one.defined, one.first, one.second)?;
+        write!(f, " n {} w {}", Numbers(&one.kind), Part(one.start()))
+    }
 }
 
 // The line of the clocks' names, where there is a clock.
-fn clocks(rt: &impl Print, text: &[u8], all: Names) -> io::Result<()> {
-    if all.count == 0 {
+fn clocks(rt: &impl Print, text: &[u8], names: &[Span]) -> io::Result<()> {
+    if names.is_empty() {
         return Ok(());
     }
-    say(rt, b"  clocks")?;
-    names(rt, text, all)?;
-    say(rt, b"\n")
-}
-
-// The numbers of a list, one a byte, each behind a space.
-fn list(rt: &impl Print, all: u64) -> io::Result<()> {
-    let mut rest = all;
-    while rest % 256 != 0 {
-        say_field(rt, b" ", rest % 256)?;
-        rest /= 256;
+    print!(rt; "  clocks")?;
+    for name in names {
+        print!(rt; " ")?;
+        rt.write_all(name.of(text))?;
     }
-    Ok(())
+    println!(rt)
 }
 
-// The number of an await, or the list of a delay.
-fn number(rt: &impl Print, kind: Kind, parameter: Parameter) -> io::Result<()> {
-    if is_delay(kind) {
-        say(rt, b" n 0 for")?;
-        return list(rt, parameter.0);
-    }
-    say_field(rt, b" n ", parameter.0)
-}
-
-// The clocks, the number and the start word of a constraint.
-fn fields(rt: &impl Print, record: Constraint) -> io::Result<()> {
-    let kind = record.kind;
-    say_field(rt, b" c ", record.defined as u64)?;
-    say_field(rt, b" a ", record.first as u64)?;
-    say_field(rt, b" b ", record.second as u64)?;
-    number(rt, kind, record.parameter)?;
-    say(rt, b" w ")?;
-    say_word(rt, constraint::start(record))
-}
-
-// The line of a constraint.
-fn constraint_line(rt: &impl Print, record: Constraint) -> io::Result<()> {
-    let line = record.line;
-    let kind = record.kind;
-    say_field(rt, b"  ", line.0 as u64)?;
-    say(rt, b" ")?;
-    say_kind(rt, kind)?;
-    fields(rt, record)?;
-    say(rt, b"\n")
-}
-
-// A line for each constraint.
-fn constraints(rt: &impl Print, records: [Constraint; 64], count: usize) -> io::Result<()> {
-    let mut i: usize = 0;
-    while i < count {
-        if 64 <= i {
-            return Ok(());
-        }
-        let record = records[i];
-        constraint_line(rt, record)?;
-        i += 1;
-    }
-    Ok(())
-}
-
-// The line of a table's numbers: of clocks, of those that are named where some are not, and of constraints.
-fn head(rt: &impl Print, table: Table) -> io::Result<()>
-    requires { (clocks_in table).count ≤ 32 }
+// The line of a table's numbers: of clocks, of those that are named where some are not, and of constraints; its clocks, and its constraints.
+pub fn table(rt: &impl Print, text: &[u8], table: &Table) -> io::Result<()>
+    requires { (clocks_in table.now).count ≤ 32 }
 {
-    let named = table.names.count;
-    say_field(rt, b"read, ", (named + table.implicit) as u64)?;
-    say(rt, b" clocks")?;
+    let named = table.names.len();
+    let constraints = table.constraints();
+    print!(rt; "read, {} clocks", named + table.implicit)?;
     if 0 < table.implicit {
-        say_field(rt, b", ", named as u64)?;
-        say(rt, b" named")?;
+        print!(rt; ", {named} named")?;
     }
-    say_field(rt, b", ", table.count as u64)?;
-    say(rt, b" constraints\n")
-}
-
-// The lines of a table that was read.
-fn read(rt: &impl Print, text: &[u8], table: Table) -> io::Result<()>
-    requires { (clocks_in table).count ≤ 32 }
-{
-    let names = table.names;
-    let records = table.records;
-    head(rt, table)?;
-    clocks(rt, text, names)?;
-    constraints(rt, records, table.count)
-}
-
-// What the reader answers to a text.
-pub fn answer(rt: &impl Print, text: &[u8]) -> io::Result<()> {
-    let answer = table::read_table(text);
-    let outcome = answer.outcome;
-    let table = answer.table;
-    match outcome {
-        Check::Passed => read(rt, text, table),
-        Check::Refused(refusal) => refused(rt, refusal),
+    println!(rt; ", {} constraints", constraints.len())?;
+    clocks(rt, text, table.names.as_slice())?;
+    for constraint in constraints {
+        rt.println(Line(constraint))?;
     }
+    Ok(())
 }

@@ -1,5 +1,6 @@
 -- A recording that may be written is read as the steps that it was written from: its bytes, its header, its body; and the example of Claim
 -- may be written, so the conditions can be met. And a variable whose name the table lacks is refused. Assumes nothing.
+use Rattle.std.specs.Prelude.{Option, Some, None}
 use Prim.Native.Nat.{ℕ, zero, suc, ◌+◌, ◌≤◌, ◌<◌}
 use mathlib.Core.Path.{◌≡◌, refl, sym, ap, ◌∙◌}
 use mathlib.Core.List.{List, [], ◌∷◌, ◌++◌, append_assoc, append-nil}
@@ -18,9 +19,8 @@ use Rattle.text.proofs.Bytes.{equal_same, differ_same, all_append, all_to}
 use Rattle.text.specs.declared.Class.TheVariants.{Parting}
 use Rattle.text.proofs.Decimals.{digits_are}
 use Rattle.text.proofs.Runs.{words_over}
-use Rattle.grammar.specs.declared.Found.TheVariants.{At, Nothing}
 use Rattle.recording.specs.BeforeWords.{recorded}
-use Rattle.recording.specs.Body.{unmarked, Ending, ended, ends_with, closing, onward, body_steps, reading}
+use Rattle.recording.specs.Body.{Ending, ended, ends_with, closing, onward, body_steps, reading}
 use Rattle.recording.specs.Header as recording
 use Rattle.recording.specs.Header.{words, opened}
 use Rattle.recording.specs.Variables.{Variable, ignored, refuses_unknown, Naming, with_id, has_clock, clock_again, all_declared}
@@ -79,7 +79,7 @@ tick_recorded vs i p g = line_recorded [] (i.value ∷ (variable_at vs i.variabl
 -- ---- look-ups
 
 found_at : (named : List ℕ → ℕ) (vs : List WrittenVariable) (i : ℕ) → i < length vs → Apart (λ u v. u.id ≡ v.id → ⊥) vs
-    → with_id (variables named vs) (variable_at vs i).id ≡ At (named (variable_at vs i).name)
+    → with_id (variables named vs) (variable_at vs i).id ≡ Some (named (variable_at vs i).name)
 unfolding with_id Apart
 found_at named [] i h d = absurd (omega arith)
 found_at named (v ∷ vs) zero h d = rw (equal_same v.id)
@@ -189,12 +189,12 @@ module _ (g : Naming) (vs : List WrittenVariable) (ss : List WrittenStep) (ok : 
   later_left = drop_at (written vs ss) later (length (written vs ss)) refl
 
   -- the steps, where what stands behind them ends reading so
-  pub ends_with_lem : (e : Ending) → ((p : Step) → body_steps us text p (words text (length (written vs ss))) ≡ closing p (ends_with e))
+  pub ends_with_lem : (e : Ending) → ((p : Option Step) → body_steps us text p (words text (length (written vs ss))) ≡ closing p (ends_with e))
       → reading g text ≡ record { steps = read_steps g.named vs (length (header vs)) ss; ending = e }
   unfolding onward closing
   ends_with_lem e rest =
       rw header_read
-      (steps_read g.named vs us text later e ss unmarked (length (header vs)) body_left ok.times (each_all ss (λ s. refl)) ok.rise
+      (steps_read g.named vs us text later e ss None (length (header vs)) body_left ok.times (each_all ss (λ s. refl)) ok.rise
       (each_to ss (λ s e. each_to s.ticks known e) ticks) ok.single (λ p. ap (λ (i : ℕ). body_steps us text p (words text i)) steps_at ∙ rest p))
 
   -- nothing stands there
@@ -209,7 +209,7 @@ written_is_read g vs ss ok =
 
 -- ---- a name that the table lacks
 
-without : (named : List ℕ → ℕ) (w : List ℕ) (vs : List WrittenVariable) → Each (λ u. u.id ≡ w → ⊥) vs → with_id (variables named vs) w ≡ Nothing
+without : (named : List ℕ → ℕ) (w : List ℕ) (vs : List WrittenVariable) → Each (λ u. u.id ≡ w → ⊥) vs → with_id (variables named vs) w ≡ None
 unfolding with_id Each
 without named w [] h = refl
 without named w (v ∷ vs) h = rw (differ_same v.id w h.0) (without named w vs h.1)

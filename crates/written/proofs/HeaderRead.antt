@@ -1,4 +1,5 @@
 -- Declarations that were written are read as the variables, up to one with a name that is refused. Assumes nothing.
+use Rattle.std.specs.Prelude.{Some, None}
 use Prim.Native.Nat.{ℕ, ◌+◌, ◌≤◌, ◌<◌}
 use mathlib.Core.Path.{◌≡◌, refl, sym, ap, ◌∙◌}
 use mathlib.Core.List.{List, [], ◌∷◌, ◌++◌, append_assoc, append-nil, map}
@@ -15,7 +16,6 @@ use Rattle.text.specs.Bytes.{all_bytes, same_bytes}
 use Rattle.text.specs.Split.{bytes_of}
 use Rattle.text.specs.declared.Span.{Span}
 use Rattle.text.proofs.Bytes.{all_to, differ_same}
-use Rattle.grammar.specs.declared.Found.TheVariants.{At, Nothing}
 use Rattle.recording.specs.Header.{words, says, command_of, shaped, header, declaring}
 use Rattle.recording.specs.Variables.{Variable, refuses_unknown, Naming, with_id, look_up, is_declared, has_clock, clock_again, all_declared}
 use Rattle.recording.specs.declared.Command.TheVariants.{Declaration, Definitions}
@@ -72,13 +72,13 @@ unfolding same_bytes
 says_end = refl
 
 -- ---- a variable more
-with_more : (us : List Variable) (u : Variable) (w : List ℕ) → with_id us w ≡ Nothing → same_bytes u.id w ≡ false → with_id (us ++ u ∷ []) w ≡ Nothing
+with_more : (us : List Variable) (u : Variable) (w : List ℕ) → with_id us w ≡ None → same_bytes u.id w ≡ false → with_id (us ++ u ∷ []) w ≡ None
 unfolding with_id
 with_more [] u w h e = rw e
 with_more (x ∷ us) u w h e = go (same_bytes x.id w) h (with_more us u w)
   where
-    go : (t : Bool) → cond t (At x.clock) (with_id us w) ≡ Nothing → (with_id us w ≡ Nothing → same_bytes u.id w ≡ false → with_id (us ++ u ∷ []) w ≡ Nothing)
-        → cond t (At x.clock) (with_id (us ++ u ∷ []) w) ≡ Nothing
+    go : (t : Bool) → cond t (Some x.clock) (with_id us w) ≡ None → (with_id us w ≡ None → same_bytes u.id w ≡ false → with_id (us ++ u ∷ []) w ≡ None)
+        → cond t (Some x.clock) (with_id (us ++ u ∷ []) w) ≡ None
     go true h ih = h
     go false h ih = ih h e
 
@@ -98,10 +98,10 @@ again_more us u k h e = go (eqb k 32) refl h
     go true q h = refl
     go false q h = has_more us u k h (ne_eqb u.clock k (λ z. eqb-false k 32 q (sym z ∙ e z)))
 
-look_none : (us : List Variable) (w : List ℕ) → with_id us w ≡ Nothing → look_up us w ≡ Nothing
+look_none : (us : List Variable) (w : List ℕ) → with_id us w ≡ None → look_up us w ≡ None
 look_none us w e = go (leb (length w) 4)
   where
-    go : (t : Bool) → cond t (with_id us w) Nothing ≡ Nothing
+    go : (t : Bool) → cond t (with_id us w) None ≡ None
     go true = e
     go false = refl
 
@@ -109,7 +109,7 @@ look_none us w e = go (leb (length w) 4)
 module _ (g : Naming) (r : List ℕ) where
   -- six words that declare a variable
   module _ (us : List Variable) (v : WrittenVariable) (a b c d e f : Span) (later : List Span) (q : map (bytes_of r) (a ∷ b ∷ c ∷ d ∷ e ∷ f ∷ []) ≡ ascii "$var" ∷ declaration_words v)
-      (short : length v.id ≤ 4) (new : with_id us v.id ≡ Nothing) (once : clock_again us (g.named v.name) ≡ false) where
+      (short : length v.id ≤ 4) (new : with_id us v.id ≡ None) (once : clock_again us (g.named v.name) ≡ false) where
     command_is : command_of (bytes_of r a) ≡ Declaration
     command_is = let qa : bytes_of r a ≡ ascii "$var" = cc in rw (qa, is_var)
 
@@ -142,7 +142,7 @@ module _ (g : Naming) (r : List ℕ) where
   pub declarations_read : (vs : List WrittenVariable) (us : List Variable) (at : ℕ) (s : List ℕ) → drop at r ≡ texts declaration vs ++ s
       → Each (λ v. Graphic v.id) vs → Each (λ v. length v.id ≤ 4) vs → Each (λ v. Graphic v.name) vs
       → Apart (λ u v. u.id ≡ v.id → ⊥) vs → Apart (λ u v. Differ (g.named u.name) (g.named v.name)) vs
-      → Each (λ v. with_id us v.id ≡ Nothing) vs → Each (λ v. clock_again us (g.named v.name) ≡ false) vs
+      → Each (λ v. with_id us v.id ≡ None) vs → Each (λ v. clock_again us (g.named v.name) ≡ false) vs
       → Each (λ v. refuses_unknown g.unknown (g.named v.name) ≡ false) vs → length us + length vs ≤ 128
       → header g r us (words r at) ≡ header g r (us ++ variables g.named vs) (words r (at + length (texts declaration vs)))
   unfolding texts Each Apart
@@ -163,7 +163,7 @@ module _ (g : Naming) (r : List ℕ) where
 
   -- a variable more, with a name that the table lacks
   pub misnamed_read : (us : List Variable) (v : WrittenVariable) (at : ℕ) (s : List ℕ) → drop at r ≡ declaration v ++ s
-      → Graphic v.id → length v.id ≤ 4 → Graphic v.name → with_id us v.id ≡ Nothing → clock_again us (g.named v.name) ≡ false
+      → Graphic v.id → length v.id ≤ 4 → Graphic v.name → with_id us v.id ≡ None → clock_again us (g.named v.name) ≡ false
       → refuses_unknown g.unknown (g.named v.name) ≡ true → header g r us (words r at) ≡ stopped VariableUnknown at
   misnamed_read us v at s d id short name new once unknown =
       ap (header g r us) (line_words_lem r (declaration_words v) (ascii "$var") at s (declaration_words_lem v id name) d)

@@ -1,5 +1,6 @@
 -- Behind a recording that may be written a mark that a byte spoils ends reading: its word is the run of bytes up to one that parts words, and
 -- what it does is known. Assumes nothing.
+use Rattle.std.specs.Prelude.{Option}
 use Prim.Native.Nat.{ℕ, ◌+◌, ◌<◌}
 use mathlib.Core.Path.{◌≡◌, refl, sym, ap, subst, ◌∙◌}
 use mathlib.Core.List.{List, [], ◌∷◌, ◌++◌, append_assoc, head-eq_of_cons-eq}
@@ -57,7 +58,7 @@ module _ (r : List ℕ) (at : ℕ) (ds s : List ℕ) (d : drop at r ≡ (35 ∷ 
       let parts : in_class Parting (get_or r at 0) ≡ false = ap (in_class Parting) first in
       is_word r Parting at w (next_some Parting r at at (sym (run_stop (in_class Parting) r at inside parts)) inside parts w.end word_end) (omega arith)
 
-  pub mark_ends : (us : List Variable) (p : Step) (l : Limit) (i : ℕ) → word_turn us p at (35 ∷ ds) ≡ stopped l i → body_steps us r p (words r at) ≡ closing p (ends_with (refused_at l i))
+  pub mark_ends : (us : List Variable) (p : Option Step) (l : Limit) (i : ℕ) → word_turn us p at (35 ∷ ds) ≡ stopped l i → body_steps us r p (words r at) ≡ closing p (ends_with (refused_at l i))
   mark_ends us p l i e =
       let b : bytes_of r w ≡ 35 ∷ ds = bytes_here r at (35 ∷ ds) s d in
       mark_stop us r p (words r at) w (words r w.end) here (ap opens_mark b) l i (ap (word_turn us p at) b ∙ e)
@@ -66,7 +67,7 @@ module _ (r : List ℕ) (at : ℕ) (ds s : List ℕ) (d : drop at r ≡ (35 ∷ 
 module _ (g : Naming) (vs : List WrittenVariable) (ss : List WrittenStep) where
   -- a mark that is refused so, whatever step it closes
   refused : (ds s : List ℕ) → Behind g vs ss ((35 ∷ ds) ++ s) → all_bytes outside ds ≡ true → Stops outside s → (l : Limit) (i : ℕ)
-      → ((p : Step) (at : ℕ) → MarkDoes p at ds (stopped l (at + 1 + i)))
+      → ((p : Option Step) (at : ℕ) → MarkDoes p at ds (stopped l (at + 1 + i)))
       → reading g (written vs ss ++ ((35 ∷ ds) ++ s)) ≡ refused_behind g vs ss l (length (written vs ss) + 1 + i)
   refused ds s b h k l i e =
       let text = written vs ss ++ ((35 ∷ ds) ++ s) in

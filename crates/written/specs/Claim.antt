@@ -27,7 +27,6 @@ clock_of named vs i = named (variable_at vs i.variable).name
 -- a step with its mark at an offset; of the variables that tick, whatever their values, those that are clocks of the table
 abbrev pub read_step : (named : List ℕ → ℕ) → List WrittenVariable → (at : ℕ) → WrittenStep → Step
 read_step named vs at s = record {
-  begun = true;
   mark = record { 0 = at };
   time = record { 0 = s.time };
   ticks = number 32 (adding_all (map (clock_of named vs) s.ticks) none);
@@ -130,9 +129,9 @@ abbrev pub by_name : List ℕ → ℕ
 by_name w = cond (same_bytes w (ascii "req")) 0 (cond (same_bytes w (ascii "ack")) 1 ignored)
 
 three_read : (as_read by_name two three).steps
-    ≡ record { begun = true; mark = record { 0 = 70 }; time = record { 0 = 0 }; ticks = 1 }
-    ∷ record { begun = true; mark = record { 0 = 76 }; time = record { 0 = 7 }; ticks = 0 }
-    ∷ record { begun = true; mark = record { 0 = 79 }; time = record { 0 = 120 }; ticks = 3 }
+    ≡ record { mark = record { 0 = 70 }; time = record { 0 = 0 }; ticks = 1 }
+    ∷ record { mark = record { 0 = 76 }; time = record { 0 = 7 }; ticks = 0 }
+    ∷ record { mark = record { 0 = 79 }; time = record { 0 = 120 }; ticks = 3 }
     ∷ []
 unfolding read_steps line texts digits digits_of same_bytes
 three_read = refl

@@ -2,7 +2,7 @@
 //! that of what they call, nor in the built library. Copies of the sources with a division, and object
 //! code with one, show that each test can fail.
 
-use std::collections::BTreeSet;
+use std::collections::{BTreeMap, BTreeSet};
 use std::fs;
 use std::io::Write;
 use std::path::{Path, PathBuf};
@@ -14,19 +14,27 @@ const READERS: [(&str, &str); 2] = [("recording", "read_mark"), ("text", "read_d
 /// What the readers are, with all that they call. The function that parts words, `text::next_word`, is
 /// called beside them and not by them.
 const WITH_THEIR_CALLS: [&str; 9] = [
+    "limit::at",
     "recording::read_mark",
-    "recording::stopped",
     "recording::timed",
-    "text::in_class",
-    "text::part",
+    "text::contains",
+    "text::of",
     "text::passes",
     "text::read_decimal",
     "text::run_end",
     "text::too_large",
 ];
 
-/// The calls of slices that have no source of ours.
-const BUILT_IN: [&str; 1] = [".len"];
+/// The methods of the standard library that are called. No function of the readers' crates has one of
+/// these names, as a test asks.
+const BUILT_IN: [&str; 6] = [
+    ".enumerate",
+    ".iter",
+    ".len",
+    ".max",
+    ".min",
+    ".split_first",
+];
 
 /// A source file of a crate, comments left out.
 struct File {
@@ -34,10 +42,12 @@ struct File {
     text: String,
 }
 
-/// A function: its crate, its name, and its text from the opening brace of its body on.
+/// A function: its crate, its name, whether it is a method, and its text from the opening brace of its
+/// body on.
 struct Function<'a> {
     krate: &'a str,
     name: &'a str,
+    is_method: bool,
     body: &'a str,
 }
 
@@ -67,23 +77,31 @@ fn without_comments(text: &str) -> String {
     text.lines().map(code).collect()
 }
 
-/// The functions of a file. The layout, which the gate checks, begins each in the first column and ends
-/// it with a brace there.
+/// The functions of a file, methods among them. The layout, which the gate checks, begins each in the
+/// first column, or behind four spaces in an `impl`, and ends it with a brace in the same column.
 fn functions(file: &File) -> Vec<Function<'_>> {
     let text = file.text.as_str();
-    let starts = text.match_indices("fn ").filter(|(at, _)| {
-        let line = text[..*at].rfind('\n').map_or(0, |end| end + 1);
-        ["", "pub "].contains(&&text[line..*at]) || text[line..*at].ends_with("extern \"C\" ")
+    let starts = text.match_indices("fn ").filter_map(|(at, mark)| {
+        let line = text[..at].rfind('\n').map_or(0, |end| end + 1);
+        let before = text[line..at].trim_start();
+        let column = at - line - before.len();
+        let begins = ["", "pub "].contains(&before) || before.ends_with("extern \"C\" ");
+        begins.then_some((at + mark.len(), column))
     });
     starts
-        .map(|(at, mark)| {
-            let rest = &text[at + mark.len()..];
-            let rest = &rest[..rest.find("\n}").unwrap_or(rest.len())];
+        .map(|(at, column)| {
+            let rest = &text[at..];
+            let end = format!("\n{}}}", " ".repeat(column));
+            let rest = &rest[..rest.find(&end).unwrap_or(rest.len())];
             let (name, _) = rest.split_once(['(', '<']).expect("parameters");
+            let (_, parameters) = rest.split_once('(').expect("parameters");
+            let first = parameters.trim_start_matches(['&', '\n', ' ']);
+            let first = first.trim_start_matches("mut ");
             let body = rest.find("{\n").map_or("", |brace| &rest[brace..]);
             Function {
                 krate: &file.krate,
                 name,
+                is_method: first.starts_with("self"),
                 body,
             }
         })
@@ -102,18 +120,56 @@ fn calls(body: &str) -> BTreeSet<&str> {
     called.filter(|path| !path.is_empty()).collect()
 }
 
-/// The crate and the name of what a path says in a crate: another crate's function has its crate's name
-/// before its own.
-fn resolved<'a>(krate: &'a str, path: &'a str, crates: &BTreeSet<&str>) -> (&'a str, &'a str) {
-    match path.split_once("::") {
-        Some((other, name)) if crates.contains(other) => (other, name),
-        _ => (krate, path.rsplit("::").next().unwrap_or(path)),
+/// The crates that each crate uses, itself among them.
+fn uses() -> BTreeMap<String, BTreeSet<String>> {
+    let list = fs::read_to_string(repository().join("crates.txt")).expect("the list of crates");
+    let line = |line: &str| {
+        let (krate, others) = line.split_once(':')?;
+        let krate = krate.split(' ').next()?.to_string();
+        let all = others.split_whitespace().map(str::to_string);
+        let all = all.chain([krate.clone()]).collect();
+        Some((krate, all))
+    };
+    list.lines()
+        .filter(|text| !text.starts_with('#'))
+        .filter_map(line)
+        .collect()
+}
+
+/// The crates whose functions a path may mean in a crate, and the name that they have there. Another
+/// crate's function may have its crate's name before its own; a method may be of any type that the crate
+/// sees.
+fn meant<'a>(
+    all: &[Function<'a>],
+    uses: &'a BTreeMap<String, BTreeSet<String>>,
+    krate: &'a str,
+    path: &'a str,
+) -> Vec<(&'a str, &'a str)> {
+    let name = path.rsplit([':', '.']).next().unwrap_or(path);
+    let is_method = path.starts_with('.');
+    let is_it = |f: &Function| f.name == name && f.is_method == is_method;
+    let has = |krate: &str| all.iter().any(|f| f.krate == krate && is_it(f));
+    if let Some((first, _)) = path.split_once("::") {
+        if uses.contains_key(first) {
+            return if has(first) {
+                vec![(first, name)]
+            } else {
+                vec![]
+            };
+        }
     }
+    if !is_method && has(krate) {
+        return vec![(krate, name)];
+    }
+    let seen = uses[krate].iter().map(String::as_str);
+    seen.filter(|other| has(other))
+        .map(|other| (other, name))
+        .collect()
 }
 
 /// What the readers are, with all that they call; or what divides among it, or can't be found.
 fn readers(files: &[File]) -> Result<Vec<String>, Vec<String>> {
-    let crates: BTreeSet<&str> = files.iter().map(|file| file.krate.as_str()).collect();
+    let uses = uses();
     let all: Vec<Function> = files.iter().flat_map(functions).collect();
     let mut open: Vec<(&str, &str)> = READERS.to_vec();
     let (mut seen, mut wrong) = (BTreeSet::new(), Vec::new());
@@ -131,12 +187,16 @@ fn readers(files: &[File]) -> Result<Vec<String>, Vec<String>> {
             if function.body.contains(['/', '%']) {
                 wrong.push(format!("{called} divides"));
             }
-            let paths = calls(function.body).into_iter();
-            for path in paths.filter(|path| !BUILT_IN.contains(path)) {
-                let (krate, name) = resolved(krate, path, &crates);
-                if !name.starts_with(|c: char| c.is_ascii_uppercase()) {
-                    open.push((krate, name));
+            for path in calls(function.body) {
+                let name = path.rsplit([':', '.']).next().unwrap_or(path);
+                if BUILT_IN.contains(&path) || name.starts_with(|c: char| c.is_ascii_uppercase()) {
+                    continue;
                 }
+                let meant = meant(&all, &uses, function.krate, path);
+                if meant.is_empty() {
+                    wrong.push(format!("{krate}::{path} is not found"));
+                }
+                open.extend(meant);
             }
         }
     }
@@ -169,6 +229,17 @@ fn the_source_of_the_readers_divides_nowhere() {
 }
 
 #[test]
+fn no_function_of_the_readers_crates_has_the_name_of_a_built_in_one() {
+    let files = sources();
+    let named = |f: &Function| READERS.iter().any(|(krate, _)| *krate == f.krate);
+    let names = files.iter().flat_map(functions).filter(named);
+    for function in names {
+        let method = format!(".{}", function.name);
+        assert!(!BUILT_IN.contains(&method.as_str()), "{method}");
+    }
+}
+
+#[test]
 fn a_division_in_a_copy_of_the_source_is_found() {
     let cases = [
         (
@@ -191,14 +262,14 @@ fn a_division_in_a_copy_of_the_source_is_found() {
         ),
         (
             "text",
-            "    in_class(class, byte) == inside",
-            "    in_class(class, byte / 1) == inside",
+            "        self.contains(byte) == inside",
+            "        self.contains(byte / 1) == inside",
             "text::passes divides",
         ),
         (
             "recording",
-            "&bytes[1..]",
-            "&bytes[3 / 2..]",
+            "word.of(recording).split_first()",
+            "word.of(&recording[1 / 2..]).split_first()",
             "recording::read_mark divides",
         ),
         (
@@ -209,9 +280,9 @@ fn a_division_in_a_copy_of_the_source_is_found() {
         ),
         (
             "recording",
-            "text::read_decimal(&bytes[1..])",
-            "constraint::ticks(1, 0)",
-            "constraint::ticks divides",
+            "match read_decimal(digits) {",
+            "match TickSet::EMPTY.contains(0) {",
+            "constraint::contains divides",
         ),
         (
             "text",
@@ -245,7 +316,10 @@ fn a_reader_under_another_name_is_not_passed_over() {
     let renamed = changed("text", "pub fn read_decimal(", "pub fn digits(");
     assert_eq!(
         readers(&renamed),
-        Err(vec!["text::read_decimal is not found".to_string()])
+        Err(vec![
+            "text::read_decimal is not found".to_string(),
+            "recording::read_decimal is not found".to_string(),
+        ])
     );
     assert_eq!(readers(&[]).expect_err("no source").len(), READERS.len());
 }

@@ -1,15 +1,8 @@
--- `complete` meets its contract. The invariant: the records and words from i on complete what is completed so far. The measure is what is left of
--- the count. Assumes nothing.
-use mathlib.Core.Path.{◌≡◌}
-use Prim.Native.Nat.{◌≤◌, ◌-◌}
-use lib.ListN.{drop}
+-- The records and words that are left complete what is completed so far.
+use Rattle.std.proofs.Common.{◌≡◌}
 use Rattle.constraint.specs.Implicit.{completed}
-use Rattle.constraint.specs.Lists.{slots}
 use Rattle.judging.proofs.step.complete.Given as goal
 
-abbrev pub invariant-loop-i : goal.invariant-loop-i
-invariant-loop-i l =
-    (l.i ≤ l.count) × (completed l.named (slots l.count l.records) l.configuration.words l.ticks ≡ completed l.named (drop l.i (slots l.count l.records)) (drop l.i l.configuration.words) l.all)
-
-abbrev pub decreases-loop-i : goal.decreases-loop-i
-decreases-loop-i l = l.count - l.i
+abbrev pub invariant-loop-constraint : goal.invariant-loop-constraint
+invariant-loop-constraint l =
+    completed l.named l.records l.configuration.words l.fn.ticks ≡ completed l.named l.constraint-iterator.a.rest.now l.constraint-iterator.b.rest.now l.all

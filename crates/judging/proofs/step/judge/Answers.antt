@@ -1,24 +1,33 @@
 -- `judge` meets its contract: where all clocks are named, the set is complete. Assumes nothing.
-use mathlib.Core.Path.{◌≡◌, sym, ap, ◌∙◌}
-use Prim.Native.Nat.{ℕ}
-use Rattle.constraint.specs.Implicit.{completed}
-use Rattle.constraint.specs.Lists.{slots}
+use Rattle.std.proofs.Common.{rules, ◌≡◌, sym, ap, ◌∙◌, Err}
 use Rattle.constraint.specs.Ticks.{bits}
 use Rattle.constraint.proofs.ImplicitLaws.{completed_flat}
-use Rattle.judging.specs.Step.{judged}
+use Rattle.judging.specs.Single.{all_ticks}
+use Rattle.judging.specs.Step.{judged, judged_as, left}
+use Rattle.judging.proofs.StepLaws.{judge_told}
 use Rattle.judging.proofs.step.judge.Goals as goal
-use Rattle.judging.proofs.step.judge.Goals.{Joined-clocks, else-clocks, then-clocks}
+use Rattle.judging.proofs.step.judge.Goals.{Joined-clocks, After-judge_each, else-clocks, then-clocks}
 
 -- where the branch ends, the set is complete
-abbrev whole : Joined-clocks → ℕ
-whole c = let s = c.args in completed s.clocks.named (slots s.count s.records) s.configuration.words s.ticks
-
-complete : (c : Joined-clocks) → c.if-clocks.all ≡ whole c
+complete : (c : Joined-clocks) → let s = c.args in bits c.if-clocks.all ≡ all_ticks s.clocks s.records.now s.configuration.now.words s.ticks
 complete c =
     let s = c.args in
-    elim c.if-clocks.branch [ then-clocks w ↦ w.all-is ∙ w.complete-all.ensures | else-clocks w ↦ w.all-is ∙ sym (completed_flat s.clocks (slots s.count s.records) s.configuration.words s.ticks c.requires.fit w.if-clocks.false) ]
+    ap bits (elim c.if-clocks.branch [
+      | then-clocks w ↦ w.all-is ∙ sym (completed_flat s.clocks s.records.now s.configuration.now.words s.ticks c.requires.fit w.if-clocks.true)
+      | else-clocks w ↦ w.all-is ∙ w.complete-all.ensures
+    ])
+
+-- what is left of the configuration is the step's
+step : (c : After-judge_each) → let s = c.args in
+    left s.configuration.now c.judge_each.result ≡ judged (all_ticks s.clocks s.records.now s.configuration.now.words s.ticks) s.records.now s.configuration.now
+step c =
+    judge_told (bits c.if-clocks.all) c.args.records.now c.args.configuration.now c.judge_each.result c.requires.inside c.judge_each.ensures
+    ∙ ap (λ F. judged F c.args.records.now c.args.configuration.now) (complete (goal.at.After-judge_each c).Joined-clocks)
+
+pub returns-in_err-configuration : goal.returns-in_err-configuration
+returns-in_err-configuration c =
+    let e : c.from_residual.result ≡ Err c.in_err-configuration.field-0.0 = search rules in
+    ap (λ r. judged_as r c.args.configuration.now) e ∙ ap (left c.args.configuration.now) (sym c.in_err-configuration.was) ∙ step (goal.at.returns-in_err-configuration c).After-judge_each
 
 pub returns : goal.returns
-returns c =
-    let s = c.args in
-    c.judge_each.ensures ∙ ap (λ (f : ℕ). judged (bits f) (slots s.count s.records) s.configuration) (complete (goal.at.returns c).Joined-clocks)
+returns c = ap (left c.args.configuration.now) (sym c.in_ok-configuration.was) ∙ step (goal.at.returns c).After-judge_each

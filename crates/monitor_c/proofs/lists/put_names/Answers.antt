@@ -1,22 +1,18 @@
-use mathlib.Core.List.{[]}
-use mathlib.Core.Path.{◌≡◌, sym, ap, ◌∙◌}
-use Prim.Native.Nat.{◌*◌}
-use native.Mathlib.Omega.{arith}
-use lib.ListN.{length, drop, drop_of_length-le}
-use lib.Seq.{sets}
+use Rattle.std.proofs.Common.{arith, refl, ap, ◌∙◌, List, ℕ, [], ◌∷◌}
+use Rattle.std.proofs.lemmas.List.{take_all}
 use Rattle.text.specs.declared.Span.{Span}
-use Rattle.constraint.proofs.Walk.{length_mapped}
 use Rattle.monitor_c.specs.Numbers.{name_numbers}
-use Rattle.reading.proofs.StoreLaws.{sets_written}
-use Rattle.monitor_c.proofs.ListLaws.{length_twos}
-use borrow.Author.Rules.{rules}
+use Rattle.reading.specs.Written.{written}
+use Rattle.monitor_c.proofs.Writes.{length_flat, pair_written, over_zeros}
 use Rattle.monitor_c.proofs.lists.put_names.Goals as goal
+
+pub loop-i-preserved : goal.loop-i-preserved
+loop-i-preserved c =
+    pair_written (λ (p : Span). p.start) (λ (p : Span). p.end) c.args.spans.now c.clear.new.numbers c.loop-i.numbers c.loop-i.i _ c.loop-i.invariant c.loop-i-test.true (omega arith)
 
 pub returns : goal.returns
 returns c =
-    let s = c.args in
-    let ps = s.spans in
-    let e : length ps ≡ 32 = search (rules, length_mapped) in
-    let all : drop c.loop-i.i ps ≡ [] = drop_of_length-le ps {i = c.loop-i.i} (omega arith) in
-    sym (ap (λ qs. sets c.loop-i.numbers (2 * c.loop-i.i) (name_numbers qs)) all) ∙ c.loop-i.invariant.2
-    ∙ sets_written (name_numbers ps) s.numbers.now (omega (arith, length_twos (λ (p : Span). p.start) (λ (p : Span). p.end) ps, e))
+    let ps = c.args.spans.now in
+    let pair : Span → List ℕ = λ p. p.start ∷ p.end ∷ [] in
+    over_zeros 64 (name_numbers ps) c.args.numbers.now c.clear.new.numbers c.loop-i.numbers (omega (arith, length_flat pair 2 (λ p. refl) ps, c.requires.few)) c.clear.ensures
+    (c.loop-i.invariant ∙ ap (λ qs. written (name_numbers qs) c.clear.new.numbers) (take_all c.loop-i.i ps c.loop-i-test.false))

@@ -1,21 +1,17 @@
-use mathlib.Core.List.{[]}
-use mathlib.Core.Path.{◌≡◌, sym, ap, ◌∙◌}
-use Prim.Native.Nat.{◌*◌}
-use native.Mathlib.Omega.{arith}
-use lib.ListN.{length, drop, drop_of_length-le}
-use lib.Seq.{sets}
-use Rattle.constraint.proofs.Walk.{length_mapped}
-use Rattle.monitor_c.specs.Numbers.{record_numbers}
-use Rattle.reading.proofs.StoreLaws.{sets_written}
-use Rattle.monitor_c.proofs.ListLaws.{length_records}
-use borrow.Author.Rules.{rules}
+use Rattle.std.proofs.Common.{arith, refl, ap, ◌∙◌}
+use Rattle.std.proofs.lemmas.List.{take_all}
+use Rattle.monitor_c.specs.Numbers.{record_numbers, numbers_of}
+use Rattle.reading.specs.Written.{written}
+use Rattle.monitor_c.proofs.Writes.{length_flat, row_written, over_zeros}
 use Rattle.monitor_c.proofs.lists.put_records.Goals as goal
+
+pub loop-i-preserved : goal.loop-i-preserved
+loop-i-preserved c =
+    row_written numbers_of 8 (λ r. refl) c.args.records.now c.clear.new.numbers c.loop-i.numbers _ c.loop-i.i _ _ (omega arith) c.loop-i.invariant c.loop-i-test.true
+    (c.copy_from_slice.ensures.after ∙ c.numbers_of.ensures ∙ ap numbers_of c.index-records-i.is)
 
 pub returns : goal.returns
 returns c =
-    let s = c.args in
-    let rs = s.records in
-    let e : length rs ≡ 64 = search (rules, length_mapped) in
-    let all : drop c.loop-i.i rs ≡ [] = drop_of_length-le rs {i = c.loop-i.i} (omega arith) in
-    sym (ap (λ qs. sets c.loop-i.numbers (8 * c.loop-i.i) (record_numbers qs)) all) ∙ c.loop-i.invariant.2
-    ∙ sets_written (record_numbers rs) s.numbers.now (omega (arith, length_records rs, e))
+    let rs = c.args.records.now in
+    over_zeros 512 (record_numbers rs) c.args.numbers.now c.clear.new.numbers c.loop-i.numbers (omega (arith, length_flat numbers_of 8 (λ r. refl) rs, c.requires.few)) c.clear.ensures
+    (c.loop-i.invariant ∙ ap (λ qs. written (record_numbers qs) c.clear.new.numbers) (take_all c.loop-i.i rs c.loop-i-test.false))

@@ -1,12 +1,7 @@
--- `through` meets its contract. The invariant: the first i rows are closed. The measure is what is left of the 32. Assumes nothing.
-use mathlib.Core.Path.{◌≡◌}
-use Prim.Native.Nat.{◌≤◌, ◌-◌}
-use lib.ListN.{length, take}
-use Rattle.order.specs.Rows.{rows_through}
+-- The rows before this one are closed, and the others are as they were.
+use Rattle.std.proofs.Common.{◌≡◌, ◌++◌, map, take, drop}
+use Rattle.order.specs.Rows.{row_through}
 use Rattle.order.proofs.circles.through.Given as goal
 
-abbrev pub invariant-loop-i : goal.invariant-loop-i
-invariant-loop-i l = (l.i ≤ 32) × (length l.closed ≡ 32) × (take l.i l.closed ≡ take l.i (rows_through l.k l.rows))
-
-abbrev pub decreases-loop-i : goal.decreases-loop-i
-decreases-loop-i l = 32 - l.i
+abbrev pub invariant-loop-row : goal.invariant-loop-row
+invariant-loop-row l = l.row-items ≡ map (row_through l.k l.by) (take l.row-index l.fn.rows) ++ drop l.row-index l.fn.rows

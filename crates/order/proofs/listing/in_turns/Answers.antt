@@ -1,55 +1,31 @@
-use mathlib.Core.Path.{◌≡◌, refl, sym, ◌∙◌}
-use mathlib.Core.Bool.{true}
-use native.Mathlib.Omega.{arith}
-use lib.ListN.{length, get_or}
-use Rattle.constraint.proofs.Walk.{length_mapped}
-use Rattle.constraint.specs.Ticks.{bits}
-use Rattle.constraint.proofs.TickSets.{bits_below}
+-- A turn lists the lowest definition that is ready; where none is, or no turn is left, all are listed.
+use Rattle.std.proofs.Common.{◌≡◌, ◌++◌, ◌-◌, ap, sym, ◌∙◌, length, Some, arith, append-nil}
+use lib.Seq.{append_snoc}
+use Rattle.std.specs.List.{find}
+use Rattle.std.specs.Option.{option_copied}
 use Rattle.order.specs.Rows.{ready_among}
-use Rattle.order.specs.declared.Defined.{Defined}
-use Rattle.order.proofs.Turns.{waits_still, has_its_turn, without_room, without_below, turns_over, turns_none, listing_on, listing_end}
-use Rattle.order.proofs.Walk.{lowest_done, lowest_stop, lowest_on}
-use borrow.Author.Rules.{rules}
+use Rattle.order.proofs.Turns.{turns_none, turns_over, turns_on}
 use Rattle.order.proofs.listing.in_turns.Goals as goal
-use Rattle.order.proofs.listing.in_turns.Goals.{Else-not-ticks}
 
--- what stands in places that are not used
-abbrev none : Defined
-none = record { number = 0; clock = 0; operands = 0 }
+pub loop-preserved : goal.loop-preserved
+loop-preserved c =
+    let ds = c.args.definitions.now in
+    let found : find (ready_among c.loop.left) ds ≡ Some c.in-Some.next.now = sym c.lowest_ready.ensures ∙ ap option_copied c.in-Some.is in
+    record {
+      many = c.push.ensures.len ∙ omega (arith, c.loop.invariant.many);
+      gives =
+          c.loop.invariant.gives
+          ∙ ap (λ xs. c.loop.order.items ++ xs) (turns_on (length ds) c.loop.index c.loop.left ds c.in-Some.next.now c.loop-test.true found)
+          ∙ rw (c.push.ensures.items, c.without-left.ensures) (sym (append_snoc c.loop.order.items c.in-Some.next.now.number _));
+    }
 
-pub loop-i-preserved-then-next-left-ne0 : goal.loop-i-preserved-then-next-left-ne0
-loop-i-preserved-then-next-left-ne0 c =
-    let ds = c.args.definitions in
-    let room : length ds.list ≡ 32 = search (rules, length_mapped) in (
-      omega arith,
-      c.loop-i.invariant.1,
-      c.loop-i.invariant.2,
-      c.loop-i.invariant.3,
-      c.loop-i.invariant.4 ∙ lowest_on (ready_among c.loop-i.left) ds.count ds.list c.loop-i.i none (omega arith) (omega arith) (waits_still c.loop-i.left (get_or ds.list c.loop-i.i none) c.if-next-left-ne0.true),
-    )
+pub returns-after-loop : goal.returns-after-loop
+returns-after-loop c =
+    let ds = c.args.definitions.now in
+    sym (c.loop.invariant.gives ∙ ap (λ xs. c.loop.order.items ++ xs) (turns_over (length ds) c.loop.index c.loop.left ds c.loop-test.false) ∙ append-nil c.loop.order.items)
 
--- the clock is left
-left_here : (c : Else-not-ticks) → bits c.loop-i.left (get_or c.args.definitions.list c.loop-i.i none).clock ≡ true
-left_here c = sym c.ticks.ensures ∙ c.if-not-ticks.false
-
-pub overflow_shl-left : goal.overflow_shl-left
-overflow_shl-left c =
-    let e1 = (goal.at.overflow_shl-left c).Else-not-ticks in
-    bits_below c.loop-i.left 32 c.loop-i.invariant.2 _ (left_here e1)
-
-pub loop-i-preserved : goal.loop-i-preserved
-loop-i-preserved c =
-    let e1 = (goal.at.loop-i-preserved c).Else-not-ticks in
-    let ds = c.args.definitions in
-    let room : length ds.list ≡ 32 = search (rules, length_mapped) in
-    let turn = lowest_stop (ready_among c.loop-i.left) ds.count ds.list c.loop-i.i none (omega arith) (omega arith) (has_its_turn c.loop-i.left (get_or ds.list c.loop-i.i none) (left_here e1) c.if-next-left-ne0.false) in
-    rw (without_room c.loop-i.left _ (overflow_shl-left c))
-    (omega arith, omega arith, without_below c.loop-i.left _ c.loop-i.invariant.2 (overflow_shl-left c), listing_on c.loop-i.invariant.3 _ (omega arith) (omega arith) (c.loop-i.invariant.4 ∙ turn), refl)
-
-pub returns-after-loop-i : goal.returns-after-loop-i
-returns-after-loop-i c =
-    let ds = c.args.definitions in
-    listing_end c.loop-i.invariant.3 (turns_none _ c.loop-i.left _ (c.loop-i.invariant.4 ∙ lowest_done (ready_among c.loop-i.left) ds.count ds.list c.loop-i.i (omega arith)))
-
-pub returns-then-n-definitions : goal.returns-then-n-definitions
-returns-then-n-definitions c = listing_end c.loop-i.invariant.3 (turns_over _ _ c.loop-i.left _ (omega arith))
+pub returns-in_default : goal.returns-in_default
+returns-in_default c =
+    let ds = c.args.definitions.now in
+    let none = turns_none (length ds - c.loop.index) c.loop.left ds (sym c.lowest_ready.ensures ∙ ap option_copied c.in_default.is) in
+    sym (c.loop.invariant.gives ∙ ap (λ xs. c.loop.order.items ++ xs) none ∙ append-nil c.loop.order.items)

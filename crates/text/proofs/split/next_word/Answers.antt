@@ -8,17 +8,17 @@ returns-then-n-start c =
     let r = c.run_end-start in
     next_none c.args.class _ _ _ r.ensures c.if-n-start.true
 
-pub returns-then-in_class : goal.returns-then-in_class
-returns-then-in_class c =
-    let i = c.in_class in
+pub returns-then-contains : goal.returns-then-contains
+returns-then-contains c =
+    let i = c.contains in
     let r = c.run_end-start in
-    next_alone c.args.class _ _ _ r.ensures c.if-n-start.false (rw (← c.ends-end_class.ensures) (sym i.ensures ∙ c.if-in_class.true))
+    next_alone c.args.class _ _ _ r.ensures c.if-n-start.false (rw (← c.ends-end_class.ensures) (sym i.ensures ∙ c.if-contains.true))
 
 pub returns : goal.returns
 returns c =
-    let i = c.in_class in
+    let i = c.contains in
     let r = c.run_end-start in
-    next_some c.args.class _ _ _ r.ensures c.if-n-start.false (rw (← c.ends-end_class.ensures) (sym i.ensures ∙ c.if-in_class.false)) _ (rw (← c.ends-end_class.ensures) c.run_end-end.ensures)
+    next_some c.args.class _ _ _ r.ensures c.if-n-start.false (rw (← c.ends-end_class.ensures) (sym i.ensures ∙ c.if-contains.false)) _ (rw (← c.ends-end_class.ensures) c.run_end-end.ensures)
 
 pub bounds-text-start : goal.bounds-text-start
 bounds-text-start c = c.if-n-start.false

@@ -1,0 +1,59 @@
+// A list of constraints that has room for so many, without a heap. Clauses see it as the list, where an `ArrayVec` would stand between a table and its
+// list in each definition that speaks of records.
+ghost use Rattle.std.specs.Prelude.{◌≡◌, ◌<◌, ◌≤◌, ◌++◌, ◌∷◌, [], length};
+
+use constraint::Constraint;
+use std::marker::Model;
+
+#[derive(Drop)]
+pub struct Constraints<const ROOM: usize> {
+    slots: [Constraint; ROOM],
+    count: usize,
+}
+
+impl<const ROOM: usize> Model for Constraints<ROOM> {
+    ghost use Rattle.std.specs.Prelude.{◌≡◌, ◌≤◌, List, length, take};
+    ghost use Rattle.constraint.specs.declared.Constraint.{Constraint};
+
+    ghost Value = { List Constraint };
+
+    ghost view = { λ c. take c.count c.slots };
+
+    ghost invariant = { λ c. (c.count ≤ ROOM) × (length c.slots ≡ ROOM) };
+}
+
+impl<const ROOM: usize> Constraints<ROOM> {
+    // No constraint yet.
+    pub fn new() -> Self
+        ensures { result ≡ [] }
+    {
+        Constraints {
+            slots: [Constraint::EMPTY; ROOM],
+            count: 0,
+        }
+    }
+
+    // The constraints, in order.
+    pub fn as_slice(&self) -> &[Constraint]
+        ensures value { result.now ≡ self.now }
+        ensures fits { length result.now ≤ ROOM }
+    {
+        &self.slots[..self.count]
+    }
+
+    pub fn len(&self) -> usize
+        ensures value { result ≡ length self.now }
+        ensures fits { result ≤ ROOM }
+    {
+        self.as_slice().len()
+    }
+
+    // Puts a constraint behind the others.
+    pub fn push(&mut self, constraint: Constraint)
+        requires { length self.old < ROOM }
+        ensures { self.new ≡ self.old ++ constraint ∷ [] }
+    {
+        self.slots[self.count] = constraint;
+        self.count += 1;
+    }
+}
