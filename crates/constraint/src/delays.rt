@@ -10,7 +10,7 @@ use std::marker::Model;
 #[derive(Clone, Copy, Debug, PartialEq, Eq)]
 pub struct Delays {
     numbers: [u8; 8],
-    count: u8,
+    count: u64,
 }
 
 impl Model for Delays {
@@ -41,12 +41,14 @@ impl Delays {
     }
 
     // The numbers, in order.
+    #[inline(always)]
     pub fn as_slice(&self) -> &[u8]
         ensures { result.now ≡ self.now }
     {
         &self.numbers[..self.len()]
     }
 
+    #[inline(always)]
     pub fn len(&self) -> usize
         ensures value { result ≡ length self.now }
         ensures few { result ≤ 8 }
@@ -54,6 +56,7 @@ impl Delays {
         self.count as usize
     }
 
+    #[inline(always)]
     pub fn is_full(&self) -> bool
         ensures { result ≡ nat_le 8 (length self.now) }
     {
@@ -61,6 +64,7 @@ impl Delays {
     }
 
     // Puts a number behind the others, where there is room.
+    #[inline(always)]
     pub fn push(&mut self, n: u8)
         requires { length self.old < 8 }
         ensures { self.new ≡ self.old ++ n ∷ [] }
@@ -70,6 +74,7 @@ impl Delays {
     }
 
     // Whether there are one to eight numbers, each 1 to 32.
+    #[inline(always)]
     pub fn in_limits(&self) -> bool
         ensures { result ≡ m.parameter_fits (Pending self.now) }
     {

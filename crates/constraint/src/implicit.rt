@@ -6,6 +6,7 @@ ghost use Rattle.constraint.specs.Ticks.{bits, with_ticks};
 use super::{Constraint, Kind, TickSet, Word};
 
 // The tick set with the implicit clock that the record defines, where it is due.
+#[inline(always)]
 pub fn with_implied(named: u8, constraint: &Constraint, w: Word, ticks: TickSet) -> TickSet
     ensures { result ≡ with_ticks ticks (implied_of named constraint.now w (bits ticks)) }
 {

@@ -13,18 +13,21 @@ use super::{Constraint, Counter, Definition, Delays, Kind, Range, Relation, Seen
 const MOST: i64 = 4_294_967_295;
 
 impl Word {
+    #[inline(always)]
     fn is_above(self) -> bool
         ensures { result ≡ m.above self }
     {
         self.first > 0
     }
 
+    #[inline(always)]
     fn is_below(self) -> bool
         ensures { result ≡ m.below self }
     {
         self.first < 0
     }
 
+    #[inline(always)]
     fn is(self, n: u8) -> bool
         ensures { result ≡ m.is n self }
     {
@@ -46,6 +49,7 @@ impl Word {
     }
 
     // The word with another first word.
+    #[inline(always)]
     fn with_first(self, first: i64) -> Word
         ensures { result ≡ m.with_first self first }
     {
@@ -56,6 +60,7 @@ impl Word {
     }
 
     // b ticks: the pending ticks are one tick of b nearer.
+    #[inline(always)]
     fn shifted(self) -> Word
         requires { l.delay_words self ≡ true }
         ensures { result ≡ m.shifted self }
@@ -67,6 +72,7 @@ impl Word {
     }
 
     // A tick is planned with the n-th next tick of b; 0 plans nothing.
+    #[inline(always)]
     fn planned(self, n: u8) -> Word
         requires words { l.delay_words self ≡ true }
         requires left { self.second <ℤ pos 8 }
@@ -85,6 +91,7 @@ impl Word {
 
 impl Relation {
     // Whether the relation allows a step in which a and b tick or not.
+    #[inline(always)]
     fn allows(self, w: Word, a: bool, b: bool) -> bool
         ensures { result ≡ m.relates self w a b }
     {
@@ -97,6 +104,7 @@ impl Relation {
         }
     }
 
+    #[inline(always)]
     fn counter(self) -> Counter
         ensures { result ≡ m.relation_counter self }
     {
@@ -106,6 +114,7 @@ impl Relation {
         }
     }
 
+    #[inline(always)]
     fn look(self, w: Word, a: bool, b: bool) -> Seen
         ensures { result ≡ l.weighed (m.relation_counter self) (m.relates self w a b) a b w }
     {
@@ -121,6 +130,7 @@ impl Relation {
 
 impl Definition {
     // Whether the clock that is defined is due to tick in a step in which a and b tick or not.
+    #[inline(always)]
     pub(crate) fn is_due(&self, w: Word, a: bool, b: bool) -> bool
         ensures { result ≡ m.due self.now w a b }
     {
@@ -137,6 +147,7 @@ impl Definition {
         }
     }
 
+    #[inline(always)]
     fn counter(&self) -> Counter
         ensures { result ≡ m.definition_counter self.now }
     {
@@ -151,6 +162,7 @@ impl Definition {
         }
     }
 
+    #[inline(always)]
     fn look(&self, w: Word, a: bool, b: bool, c: bool) -> Seen
         ensures { result ≡ l.weighed (m.definition_counter self.now) (m.◌exactly_when◌ c (m.due self.now w a b)) a b w }
     {
@@ -168,6 +180,7 @@ impl Definition {
 
     // The clocks of a definition, c, which it defines, and its operands, and its number or list, a row of 59 an arm. An await has one operand, which is
     // asked here, below and in the order of definitions, each time with other arms beside it.
+    #[inline(always)]
     pub(crate) fn fits(&self, clocks: u8, a: u8, b: u8, c: u8) -> bool
         ensures { result ≡ (m.clocks_fit clocks (c ∷ m.operands self.now a b) && m.parameter_fits (m.definition_counter self.now)) }
     {
@@ -179,6 +192,7 @@ impl Definition {
     }
 
     // Whether the operands of a definition are known.
+    #[inline(always)]
     pub(crate) fn operands_known(&self, named: u8, earlier: TickSet, a: u8, b: u8) -> bool
         ensures { result ≡ all_known named (bits earlier) (m.operands self.now a b) }
     {
@@ -190,6 +204,7 @@ impl Definition {
 }
 
 impl Range {
+    #[inline(always)]
     fn new(start: i64, low: i64, high: i64) -> Range
         ensures { result ≡ m.row start low high }
     {
@@ -209,6 +224,7 @@ impl Range {
     }
 }
 
+#[inline(always)]
 fn between(low: i64, high: i64, z: i64) -> bool
     ensures { result ≡ m.between low high z }
 {
@@ -311,6 +327,7 @@ impl Counter {
 }
 
 // A delay's word after a step in which a and b tick or not: shifted on b; then, on a, the next number planned, if one is left.
+#[inline(always)]
 fn delayed(list: &Delays, w: Word, a: bool, b: bool) -> Word
     requires { l.delay_words w ≡ true }
     ensures { result ≡ m.delayed list.now w a b }
@@ -328,6 +345,7 @@ fn delayed(list: &Delays, w: Word, a: bool, b: bool) -> Word
 
 impl Constraint {
     // The start and the range of the record's word.
+    #[inline(always)]
     fn range(&self) -> Range
         ensures { result ≡ m.word_range self.now }
     {
@@ -339,6 +357,7 @@ impl Constraint {
     }
 
     // The record's word before the first step.
+    #[inline(always)]
     pub fn start(&self) -> Word
         ensures { result ≡ m.start self.now }
     {
@@ -349,6 +368,7 @@ impl Constraint {
     }
 
     // Whether a word is in the record's range.
+    #[inline(always)]
     pub fn is_in_range(&self, w: Word) -> bool
         ensures { result ≡ m.in_range self.now w }
     {
@@ -371,6 +391,7 @@ impl Constraint {
 }
 
 // Two clocks below the clock count, and not one twice.
+#[inline(always)]
 pub fn pair_fits(clocks: u8, x: u8, y: u8) -> bool
     ensures { result ≡ m.clocks_fit clocks (x ∷ y ∷ []) }
 {
@@ -378,6 +399,7 @@ pub fn pair_fits(clocks: u8, x: u8, y: u8) -> bool
 }
 
 // Three clocks below the clock count, and not one twice.
+#[inline(always)]
 fn triple_fits(clocks: u8, x: u8, y: u8, z: u8) -> bool
     ensures { result ≡ m.clocks_fit clocks (x ∷ y ∷ z ∷ []) }
 {
@@ -386,6 +408,7 @@ fn triple_fits(clocks: u8, x: u8, y: u8, z: u8) -> bool
 
 // Whether a clock is a named one, or one of those that earlier records define. How many clocks are named is the table's, and the clocks defined by
 // earlier records grow record by record: they are no value of their own.
+#[inline(always)]
 fn known(named: u8, earlier: TickSet, i: u8) -> bool
     ensures { result ≡ (ltb i named || bits earlier i) }
 {
@@ -393,6 +416,7 @@ fn known(named: u8, earlier: TickSet, i: u8) -> bool
 }
 
 // Whether two clocks are.
+#[inline(always)]
 pub fn both_known(named: u8, earlier: TickSet, x: u8, y: u8) -> bool
     ensures { result ≡ all_known named (bits earlier) (x ∷ y ∷ []) }
 {

@@ -143,8 +143,8 @@ fn renumber(named: usize, clock: u8) -> u8
     clock - (32 - named as u8)
 }
 
-// A constraint with its clocks' numbers behind this many names.
-fn renumbered(named: usize, constraint: &Constraint) -> Constraint
+// A constraint with its clocks' numbers behind this many names, however many these are.
+pub fn renumbered(named: usize, constraint: &Constraint) -> Constraint
     ensures { result ≡ d.renumbered named constraint.now }
 {
     Constraint {

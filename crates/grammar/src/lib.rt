@@ -10,6 +10,7 @@ mod name_list;
 mod naming;
 mod words;
 
+pub use building::renumbered;
 use constraint::{Kind, TickSet};
 pub use list::{delay_list, number_up_to};
 pub use listed::Constraints;

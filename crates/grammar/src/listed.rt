@@ -24,6 +24,7 @@ impl<const ROOM: usize> Model for Constraints<ROOM> {
 
 impl<const ROOM: usize> Constraints<ROOM> {
     // No constraint yet.
+    #[inline(always)]
     pub fn new() -> Self
         ensures { result ≡ [] }
     {
@@ -34,6 +35,7 @@ impl<const ROOM: usize> Constraints<ROOM> {
     }
 
     // The constraints, in order.
+    #[inline(always)]
     pub fn as_slice(&self) -> &[Constraint]
         ensures value { result.now ≡ self.now }
         ensures fits { length result.now ≤ ROOM }
@@ -41,6 +43,7 @@ impl<const ROOM: usize> Constraints<ROOM> {
         &self.slots[..self.count]
     }
 
+    #[inline(always)]
     pub fn len(&self) -> usize
         ensures value { result ≡ length self.now }
         ensures fits { result ≤ ROOM }
@@ -49,6 +52,7 @@ impl<const ROOM: usize> Constraints<ROOM> {
     }
 
     // Puts a constraint behind the others.
+    #[inline(always)]
     pub fn push(&mut self, constraint: Constraint)
         requires { length self.old < ROOM }
         ensures { self.new ≡ self.old ++ constraint ∷ [] }

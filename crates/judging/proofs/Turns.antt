@@ -19,6 +19,10 @@ abbrev pub onto : List Word → Result (List Word) NotHeld → Result (List Word
 onto xs (Ok ws) = Ok (xs ++ ws)
 onto xs (Err e) = Err e
 
+pub onto_none : (x : Result (List Word) NotHeld) → x ≡ onto [] x
+onto_none (Ok ws) = refl
+onto_none (Err e) = refl
+
 onto_put : (xs : List Word) (v : Word) (x : Result (List Word) NotHeld) → onto xs (put v x) ≡ onto (xs ++ v ∷ []) x
 onto_put xs v (Ok ws) = ap Ok (sym (append_snoc xs v ws))
 onto_put xs v (Err e) = refl

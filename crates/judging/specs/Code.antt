@@ -47,3 +47,8 @@ walked F i past (r ∷ rs) (w ∷ ws) = turned (looked r w F) (record { 0 = i })
 abbrev pub words_of : Result Configuration NotHeld → Result (List Word) NotHeld
 words_of (Ok c) = Ok c.words
 words_of (Err e) = Err e
+
+-- what a walk that moves words where they stand leaves of them, where the step is taken
+abbrev pub taken : Result (Unit {0}) NotHeld → List Word → Result Configuration NotHeld
+taken (Ok u) ws = Ok (record { words = ws })
+taken (Err e) ws = Err e

@@ -8,7 +8,7 @@ ghost use Rattle.judging.specs.Single.{all_ticks};
 ghost use Rattle.judging.specs.Step as s;
 
 use super::NotHeld;
-use constraint::{Clocks, Configuration, Constraint, Seen, TickSet, with_implied};
+use constraint::{Clocks, Configuration, Constraint, Seen, TickSet, Word, with_implied};
 use limit::Place;
 
 // The tick set with the implicit clocks that tick with it: record by record, each with its word from before the step.
@@ -27,20 +27,32 @@ fn complete(
     all
 }
 
-// Record by record: the first that fails ends it; the first whose word leaves its million is remembered. A step that is not taken moves no word.
+// The word, number by number: so it is written quicker than at once, just after its numbers were.
+#[inline(always)]
+fn by_numbers(word: Word) -> Word
+    ensures { result ≡ word }
+{
+    Word {
+        first: word.first,
+        second: word.second,
+    }
+}
+
+// Record by record: the first that fails ends it; the first whose word leaves its million is remembered. Each word is moved where it stands, so that
+// words are moved too where the step turns out not to be taken.
+#[inline(always)]
 fn judge_each(
     records: &[Constraint],
-    configuration: Configuration,
+    words: &mut [Word; 64],
     ticks: TickSet,
-) -> Result<Configuration, NotHeld>
+) -> Result<(), NotHeld>
     requires { length records.now ≤ 64 }
-    ensures { k.words_of result ≡ k.walked (bits ticks) 1 None records.now configuration.words }
+    ensures { k.words_of (k.taken result words.new) ≡ k.walked (bits ticks) 1 None records.now words.old }
 {
-    let mut words = configuration.words;
     let mut past = None;
     for (i, constraint) in records.iter().enumerate() {
         match constraint.look(words[i], ticks) {
-            Seen::Moves(word) => words[i] = word,
+            Seen::Moves(word) => words[i] = by_numbers(word),
             Seen::Leaves(word) => {
                 words[i] = word;
                 past = past.or(Some(Place(i + 1)));
@@ -50,7 +62,7 @@ fn judge_each(
     }
     match past {
         Some(place) => Err(NotHeld::PastMillion(place)),
-        None => Ok(Configuration { words }),
+        None => Ok(()),
     }
 }
 
@@ -71,6 +83,10 @@ pub fn judge(
     } else {
         complete(clocks.named, records, configuration, ticks)
     };
-    *configuration = judge_each(records, *configuration, all)?;
+    let before = *configuration;
+    if let Err(reason) = judge_each(records, &mut configuration.words, all) {
+        *configuration = before;
+        return Err(reason);
+    }
     Ok(())
 }

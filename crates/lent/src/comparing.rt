@@ -24,6 +24,7 @@ impl Comparison {
     }
 
     // What a record and its two words add.
+    #[inline(always)]
     #[tactic(auto, unfolding(crate::specs::Compare::compared))]
     pub(crate) fn compare(&mut self, place: Place, constraint: &Constraint, w: Word, v: Word)
         ensures { self.new ≡ c.compared self.old place constraint.now w v }
@@ -33,9 +34,9 @@ impl Comparison {
             fitted = constraint.fits_clocks(self.clocks, self.earlier);
         }
         self.earlier = fitted.defined;
-        self.unfit = lowest(self.unfit, fitted.fits, place);
-        self.first = lowest(self.first, constraint.is_in_range(w), place);
-        self.second = lowest(self.second, constraint.is_in_range(v), place);
+        lowest(&mut self.unfit, fitted.fits, place);
+        lowest(&mut self.first, constraint.is_in_range(w), place);
+        lowest(&mut self.second, constraint.is_in_range(v), place);
         self.same &= w == v;
     }
 

@@ -7,11 +7,14 @@ ghost use Rattle.lent.specs.Places as p;
 use constraint::{Clocks, Configuration};
 use limit::{Limit, Place, Refusal};
 
-// The lowest place at which a test fails: the one that is known, else this one.
-pub fn lowest(known: Option<Place>, passes: bool, place: Place) -> Option<Place>
-    ensures { result ≡ p.lowest known passes place }
+// The lowest place at which a test fails: the one that is known, else this one. Nothing is written where it passes, which is quicker.
+#[inline(always)]
+pub fn lowest(known: &mut Option<Place>, passes: bool, place: Place)
+    ensures { known.new ≡ p.lowest known.old passes place }
 {
-    if passes { known } else { known.or(Some(place)) }
+    if !passes {
+        *known = (*known).or(Some(place));
+    }
 }
 
 // Limit 59: counts of clocks that do not fit, the first record that does not, over 64 records.

@@ -28,11 +28,12 @@ impl Survey {
     }
 
     // What a record adds, by how it fits and what the step comes to for it; and its word after the step, which is w where it is not moved.
+    #[inline(always)]
     fn add(&mut self, place: Place, fitted: Fitted, seen: Seen, w: Word) -> Word
         ensures { s.turn self.new result ≡ s.added self.old place fitted seen w }
     {
         self.earlier = fitted.defined;
-        self.unfit = lowest(self.unfit, fitted.fits, place);
+        lowest(&mut self.unfit, fitted.fits, place);
         match seen {
             Seen::Out => {
                 self.out = self.out.or(Some(place));
@@ -52,6 +53,7 @@ impl Survey {
 
     // What a record and its word add, and the word after the step. A record that fits among the named clocks makes no implicit clock tick; any other
     // is looked at with the tick of the implicit clock that it defines.
+    #[inline(always)]
     #[tactic(auto, unfolding(crate::specs::Survey::visited))]
     pub(crate) fn visit(&mut self, place: Place, constraint: &Constraint, w: Word) -> Word
         ensures { s.turn self.new result ≡ s.visited self.old place constraint.now w }

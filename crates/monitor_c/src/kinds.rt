@@ -6,6 +6,7 @@ ghost use Rattle.monitor_c.specs.Numbers.{at_most, clock_of, kind_number, kind_o
 use constraint::{Definition, Delays, Kind, Relation};
 
 // n, or the most that is let pass.
+#[inline(always)]
 pub fn clock_of(n: u64) -> u8
     ensures { result ≡ clock_of n }
 {
@@ -13,6 +14,7 @@ pub fn clock_of(n: u64) -> u8
 }
 
 // The first numbers of a list that has a number a byte, this many; none where it has fewer.
+#[inline(always)]
 fn list_of(numbers: u64, count: u64) -> Delays
     ensures { result ≡ list_of numbers count }
 {
@@ -32,6 +34,7 @@ fn list_of(numbers: u64, count: u64) -> Delays
 }
 
 // The kind with a number, empty where no kind has it; an await with its number, and a delay with its list.
+#[inline(always)]
 pub fn kind_of(kind: u64, n: u64, numbers: u64, count: u64) -> Kind
     ensures { result ≡ kind_of kind n numbers count }
 {

@@ -11,6 +11,7 @@ use grammar::Constraints;
 use limit::Place;
 
 // How many clocks are named, and how many there are.
+#[inline(always)]
 pub fn clocks_of(named: u32, clocks: u32) -> Clocks
     ensures { result ≡ clocks_of named clocks }
 {
@@ -21,6 +22,7 @@ pub fn clocks_of(named: u32, clocks: u32) -> Clocks
 }
 
 // The record that eight numbers stand for.
+#[inline(always)]
 fn record_of(row: &[u64; 8]) -> Constraint
     ensures { result ≡ record_of (row_at row.now 0) }
 {
@@ -56,6 +58,7 @@ pub fn shape(numbers: &[u64]) -> Result<(), Status>
 }
 
 // The records that the numbers stand for, the first 65 of them, since more than 64 are refused at the 65th.
+#[inline(always)]
 pub fn records_of(numbers: &[u64]) -> Constraints<65>
     ensures { result ≡ take 65 (records_of numbers.now) }
 {
@@ -69,6 +72,7 @@ pub fn records_of(numbers: &[u64]) -> Constraints<65>
 }
 
 // The configuration with the first 64 pairs of words.
+#[inline(always)]
 pub fn configuration_of(words: &[i64]) -> Configuration
     requires { 128 ≤ length words.now }
     ensures { result ≡ configuration_of words.now }

@@ -10,6 +10,7 @@ use limit::{Limit, Place, Refusal};
 use text::{Span, Spoilt, read_decimal};
 
 // Whether a word opens with `#`.
+#[inline(always)]
 pub fn opens_mark(word: &[u8]) -> bool
     ensures { result ≡ b.opens_mark word.now }
 {
@@ -17,6 +18,7 @@ pub fn opens_mark(word: &[u8]) -> bool
 }
 
 // A mark at a time.
+#[inline(always)]
 fn timed(current: Option<Step>, at: Place, time: u64) -> Result<Step, Refusal>
     ensures { checked result ≡ b.time_turn current at.0 (Ok time) }
 {
@@ -33,6 +35,7 @@ fn timed(current: Option<Step>, at: Place, time: u64) -> Result<Step, Refusal>
 }
 
 // A word that opens with `#`, behind the step that it closes, where there is one.
+#[inline(always)]
 #[tactic(auto, using(crate::proofs::BodyLaws::mark_room, crate::proofs::BodyLaws::other_within, crate::proofs::BodyLaws::large_within), unfolding(crate::specs::Body::mark_turn))]
 pub fn read_mark(recording: &[u8], current: Option<Step>, word: Span) -> Result<Step, Refusal>
     ensures { checked result ≡ b.mark_turn current word.start (bytes_of recording.now word) }
@@ -49,6 +52,7 @@ pub fn read_mark(recording: &[u8], current: Option<Step>, word: Span) -> Result<
 }
 
 // Whether a byte is the value of a change.
+#[inline(always)]
 fn is_value(byte: u8) -> bool
     ensures { result ≡ b.is_value byte }
 {
@@ -56,6 +60,7 @@ fn is_value(byte: u8) -> bool
 }
 
 // A tick of the variable with an id.
+#[inline(always)]
 fn tick(variables: &Variables, current: Option<Step>, at: Place, id: &[u8]) -> Result<Step, Refusal>
     ensures { checked result ≡ b.variable_turn variables.now current at.0 id.now }
 {
@@ -72,6 +77,7 @@ fn tick(variables: &Variables, current: Option<Step>, at: Place, id: &[u8]) -> R
 }
 
 // A word that opens no mark, at an offset.
+#[inline(always)]
 #[tactic(auto, unfolding(crate::specs::Body::change_turn))]
 pub fn read_change(
     variables: &Variables,

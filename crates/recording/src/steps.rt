@@ -48,6 +48,7 @@ impl<'v, 'r> Steps<'v, 'r> {
     }
 
     // The next step, or the refusal, behind which nothing comes.
+    #[inline(always)]
     #[tactic(auto, unfolding(crate::specs::Body::body_steps, crate::specs::Body::word_turn, crate::specs::Body::onward, crate::specs::Body::closing))]
     fn take(&mut self) -> Option<Result<Step, Refusal>>
         ensures { GivesStep self.old result self.new }
@@ -95,6 +96,7 @@ impl<'v, 'r> Iterator for Steps<'v, 'r> {
 
     ghost remaining = { λ s. at_most (items_left s) };
 
+    #[inline(always)]
     #[tactic(auto, unfolding(crate::specs::Body::closing))]
     fn next(&mut self) -> Option<Result<Step, Refusal>> {
         self.take()

@@ -30,6 +30,7 @@ impl Model for Variables {
 }
 
 // The digit of the byte at an index, 0 past the end.
+#[inline(always)]
 fn digit_at(id: &[u8], i: usize) -> u64
     ensures { (result ≡ x.digit_of (drop i id.now)) × (result ≤ 256) }
 {
@@ -40,6 +41,7 @@ fn digit_at(id: &[u8], i: usize) -> u64
 }
 
 // The number that stands for an id.
+#[inline(always)]
 #[tactic(auto, using(crate::proofs::VariableLaws::code_digits, crate::proofs::VariableLaws::bytes_digits))]
 fn code(id: &[u8]) -> u64
     requires { length id.now ≤ 4 }
@@ -53,6 +55,7 @@ fn code(id: &[u8]) -> u64
 }
 
 // The bucket of an id's number, below 241.
+#[inline(always)]
 fn bucket(code: u64) -> usize
     ensures { (result ≡ x.bucket_of code) × (result < 241) }
 {
@@ -81,6 +84,7 @@ impl Variables {
     }
 
     // The clock of the variable with an id.
+    #[inline(always)]
     #[tactic(auto, using(crate::proofs::VariableLaws::id_stop, crate::proofs::VariableLaws::id_on, crate::proofs::VariableLaws::id_done, crate::proofs::VariableLaws::starts_skip, crate::proofs::VariableLaws::look_of))]
     pub fn find(&self, id: &[u8]) -> Option<u8>
         ensures { result ≡ v.look_up self.now id.now }

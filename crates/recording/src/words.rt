@@ -22,6 +22,7 @@ impl<'a> Words<'a> {
     ghost use Rattle.recording.specs.Left.{GivesWord};
 
     // The next word, if there is one. Here the class is known, so that the search for a word is compiled for it.
+    #[inline(always)]
     fn take(&mut self) -> Option<Span>
         ensures { GivesWord self.old result self.new }
     {
@@ -44,6 +45,7 @@ impl<'a> Iterator for Words<'a> {
 
     ghost remaining = { item_count words_left };
 
+    #[inline(always)]
     fn next(&mut self) -> Option<Span> {
         self.take()
     }

@@ -1,9 +1,10 @@
 -- `judge` meets its contract: where all clocks are named, the set is complete. Assumes nothing.
-use Rattle.std.proofs.Common.{rules, ◌≡◌, sym, ap, ◌∙◌, Err}
+use Rattle.std.proofs.Common.{◌≡◌, sym, ap, ◌∙◌}
 use Rattle.constraint.specs.Ticks.{bits}
 use Rattle.constraint.proofs.ImplicitLaws.{completed_flat}
+use Rattle.judging.specs.Code.{taken}
 use Rattle.judging.specs.Single.{all_ticks}
-use Rattle.judging.specs.Step.{judged, judged_as, left}
+use Rattle.judging.specs.Step.{judged, left}
 use Rattle.judging.proofs.StepLaws.{judge_told}
 use Rattle.judging.proofs.step.judge.Goals as goal
 use Rattle.judging.proofs.step.judge.Goals.{Joined-clocks, After-judge_each, else-clocks, then-clocks}
@@ -19,15 +20,13 @@ complete c =
 
 -- what is left of the configuration is the step's
 step : (c : After-judge_each) → let s = c.args in
-    left s.configuration.now c.judge_each.result ≡ judged (all_ticks s.clocks s.records.now s.configuration.now.words s.ticks) s.records.now s.configuration.now
+    left s.configuration.now (taken c.judge_each.result c.judge_each.new.words) ≡ judged (all_ticks s.clocks s.records.now s.configuration.now.words s.ticks) s.records.now s.configuration.now
 step c =
-    judge_told (bits c.if-clocks.all) c.args.records.now c.args.configuration.now c.judge_each.result c.requires.inside c.judge_each.ensures
+    judge_told (bits c.if-clocks.all) c.args.records.now c.args.configuration.now (taken c.judge_each.result c.judge_each.new.words) c.requires.inside c.judge_each.ensures
     ∙ ap (λ F. judged F c.args.records.now c.args.configuration.now) (complete (goal.at.After-judge_each c).Joined-clocks)
 
-pub returns-in_err-configuration : goal.returns-in_err-configuration
-returns-in_err-configuration c =
-    let e : c.from_residual.result ≡ Err c.in_err-configuration.field-0.0 = search rules in
-    ap (λ r. judged_as r c.args.configuration.now) e ∙ ap (left c.args.configuration.now) (sym c.in_err-configuration.was) ∙ step (goal.at.returns-in_err-configuration c).After-judge_each
+pub returns-in-Err : goal.returns-in-Err
+returns-in-Err c = ap (λ r. left c.args.configuration.now (taken r c.judge_each.new.words)) (sym c.in-Err.is) ∙ step (goal.at.returns-in-Err c).After-judge_each
 
 pub returns : goal.returns
-returns c = ap (left c.args.configuration.now) (sym c.in_ok-configuration.was) ∙ step (goal.at.returns c).After-judge_each
+returns c = ap (λ r. left c.args.configuration.now (taken r c.judge_each.new.words)) (sym c.in_default.is) ∙ step (goal.at.returns c).After-judge_each

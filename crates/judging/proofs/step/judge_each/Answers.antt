@@ -1,11 +1,14 @@
 -- A record's word is moved, within its million or past it. Assumes nothing.
-use Rattle.std.proofs.Common.{◌+◌, ◌<◌, sym, ap, ◌∙◌, length, length-set, arith}
+use Rattle.std.proofs.Common.{rules, ◌+◌, ◌<◌, sym, ap, ◌∙◌, length, length-set, arith}
 use Rattle.limit.specs.declared.Place.{Place}
 use Rattle.constraint.specs.Ticks.{bits}
 use Rattle.judging.specs.Code.{turned}
-use Rattle.judging.proofs.Turns.{turn_on}
+use Rattle.judging.proofs.Turns.{onto_none, turn_on}
 use Rattle.judging.proofs.step.judge_each.Goals as goal
 use Rattle.judging.proofs.step.judge_each.Goals.{in-Moves, in-Leaves}
+
+pub loop-i-init : goal.loop-i-init
+loop-i-init c = record { size = search rules; gives = onto_none _; }
 
 pub loop-i-preserved : goal.loop-i-preserved
 loop-i-preserved c =
@@ -15,7 +18,7 @@ loop-i-preserved c =
     let turn = turn_on (bits c.args.ticks) c.args.records.now l.words l.i _ c.index-records-i.is c.loop-i-test.true room l.past in
     elim c.match-look.branch [
       | in-Moves w ↦
-          rw (w.words-is, w.past-is)
+          rw (w.words-is, w.past-is, w.by_numbers.ensures)
           (record {
             size = length-set l.words l.i _ ∙ l.invariant.size;
             gives = l.invariant.gives ∙ turn l.past _ w.in-Moves.word (λ behind. ap (λ a. turned a p l.past behind) (sym c.look.ensures ∙ w.in-Moves.is));

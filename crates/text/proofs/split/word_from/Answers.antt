@@ -1,7 +1,7 @@
--- `next_word` meets its contract. Assumes nothing.
+-- `word_from` meets its contract. Assumes nothing.
 use mathlib.Core.Path.{sym, ◌∙◌}
 use Rattle.text.proofs.Runs.{next_none, next_alone, next_some}
-use Rattle.text.proofs.split.next_word.Goals as goal
+use Rattle.text.proofs.split.word_from.Goals as goal
 
 pub returns-then-n-start : goal.returns-then-n-start
 returns-then-n-start c =
