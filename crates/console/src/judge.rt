@@ -1,6 +1,6 @@
 // The program, with a choice what becomes of names that the table lacks.
 use super::file::read_file;
-use printing::{ThreeLines, text_of};
+use printing::ROOM;
 use recording::UnknownNames;
 use run::Report;
 use std::io;
@@ -25,22 +25,27 @@ pub fn judge_files<R: Files>(
 }
 
 // Judges the recording `trace.vcd` by the table `table.ccsl`, both in the working directory, and prints three lines: verdict, number of
-// accepted steps, configuration.
+// accepted steps, configuration. What is written are the bytes that `run_text` promises of the two texts and the choice.
 pub fn judge_folder<R: Files + Print>(
     rt: &R,
     errors: &impl Print,
     unknown: UnknownNames,
 ) -> io::Result<()> {
-    print_report(
-        rt,
-        &judge_files(rt, errors, b"table.ccsl", b"trace.vcd", unknown),
-    )
+    let mut table_text = [0u8; 4097];
+    let mut recording_text = [0u8; 65537];
+    let mut text = [0u8; ROOM];
+    let n = printing::run_text(
+        read_file(rt, errors, b"table.ccsl", &mut table_text),
+        read_file(rt, errors, b"trace.vcd", &mut recording_text),
+        unknown,
+        &mut text,
+    );
+    rt.write_all(&text[..n])
 }
 
-// Prints the three lines of a report: their bytes, which are proved, by one call.
+// Prints the three lines of a report, by one write.
 pub fn print_report(rt: &impl Print, report: &Report) -> io::Result<()> {
-    match text_of(report) {
-        Some(text) => rt.write_all(text.as_bytes()),
-        None => rt.print(ThreeLines(report)),
-    }
+    let mut text = [0u8; ROOM];
+    let n = printing::report_text(report, &mut text);
+    rt.write_all(&text[..n])
 }

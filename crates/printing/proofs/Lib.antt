@@ -1,3 +1,4 @@
 pub mod DecimalLaws
 pub mod Determined
 pub mod PrintedLaws
+pub mod PutLaws

@@ -1,3 +1,4 @@
 pub mod Decimal
 pub mod Determined
 pub mod Printed
+pub mod Put

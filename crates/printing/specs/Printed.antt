@@ -1,6 +1,6 @@
 -- What the program prints: document 01, "The program", three lines: verdict, `steps n`, `config` and the two words of each constraint (document
 -- 02, M-105). Assumes nothing.
-use Rattle.std.specs.Prelude.{◌≡◌, refl, List, [], ◌∷◌, ◌++◌, map, ℕ, ℤ, pos, negsuc, take, replicate}
+use Rattle.std.specs.Prelude.{◌≡◌, refl, List, [], ◌∷◌, ◌++◌, map, ℕ, ◌≤◌, ℤ, pos, negsuc, length, take, drop, replicate}
 use Rattle.constraint.specs.Meaning.{word}
 use Rattle.constraint.specs.Pairs.{first, second, together}
 use Rattle.constraint.specs.declared.Word.{Word}
@@ -44,6 +44,14 @@ shown t = take t.constraints t.configuration.words
 
 abbrev pub printed : Told → List ℕ
 printed t = verdict_line t.said ++ steps_line t.steps ++ config_line (shown t)
+
+-- ---- the text in a buffer: its first n bytes are the text, and those behind them are as they were
+
+pub record Begins (before text after : List ℕ) (n : ℕ) : Type 0 where
+  pub front : take n after ≡ text
+  pub behind : drop n after ≡ drop n before
+  pub within : n ≤ length after
+  pub counts : n ≡ length (take n after)
 
 -- ---- document 01's example; a refused table; a negative word, and a delay with two pending ticks and one number used
 

@@ -1,14 +1,19 @@
 // What the program prints: document 01, "The program", three lines: verdict, `steps n`, `config` and two words for each constraint.
 #![tactic(auto)]
 
-ghost use Rattle.std.specs.Prelude.{◌≡◌, Some, MatchOption, ⊤};
+ghost use Rattle.std.specs.Prelude.{◌≡◌, ◌≤◌, length, Some, MatchOption, ⊤};
 ghost use Rattle.run.specs.Run as run;
 ghost use Rattle.text.specs.Digits.{digits};
 ghost use Rattle.printing.specs.Decimal.{signed};
 ghost use Rattle.printing.specs.Printed as p;
 
+mod put;
+mod report;
+mod value;
+
 use arrayvec::ArrayString;
 use constraint::Word;
+pub use report::{report_text, run_text};
 use run::{Report, Steps, Verdict};
 use std::fmt;
 use std::fmt::Write;
@@ -85,9 +90,10 @@ impl<'a> fmt::Display for ConfigLine<'a> {
     }
 }
 
-// The words of as many constraints as the table has.
+// The words of as many constraints as the table has; a configuration has those of 64.
 fn shown(report: &Report) -> &[Word]
-    ensures { result.now ≡ p.shown (run.told report.now) }
+    ensures words { result.now ≡ p.shown (run.told report.now) }
+    ensures few { length result.now ≤ 64 }
 {
     let words = &report.configuration.words[..];
     words.get(..report.constraints).unwrap_or(words)
@@ -108,10 +114,12 @@ impl<'a> fmt::Display for ThreeLines<'a> {
     }
 }
 
-// The bytes that a report's three lines may have: 64 constraints with two words of at most 20 digits each.
+// Room for the longest text. The verdict's line has at most 51 bytes (`violated`, two spaces, two numbers of 20 digits, a line end), that of
+// the steps 27, and that of the configuration 2,695 (`config`, 128 spaces and words of 20 bytes, a line end).
 pub const ROOM: usize = 2773;
 
-// The three lines of a report as bytes, for a write of all of them at once. A formatter may fail, for all that its contract says; then there are none.
+// The three lines of a report as a text, written by `Display`. A formatter may fail, for all that its contract says; then there is none. `report_text`
+// beside it can't fail, and is what the programs print.
 pub fn text_of(report: &Report) -> Option<ArrayString<ROOM>>
     ensures { MatchOption result ⊤ (λ text. text.bytes ≡ p.printed (run.told report.now)) }
 {

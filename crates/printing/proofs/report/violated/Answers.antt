@@ -1,0 +1,8 @@
+-- `violated` meets its contract: its four parts, one behind the other. Assumes nothing.
+use borrow.Author.Rules.{rules}
+use Rattle.printing.proofs.PutLaws.{put_then}
+use Rattle.printing.proofs.report.violated.Goals as goal
+
+pub returns : goal.returns
+returns c =
+    record { put = put_then c.put_text-a.ensures (put_then c.put_place-b.ensures.put (put_then c.put_time-c.ensures.put c.put_text.ensures)); short = search rules }
