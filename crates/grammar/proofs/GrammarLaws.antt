@@ -1,6 +1,6 @@
 -- Readings of a line, step by step: what each definition gives where a test passes. The laws of forms are over the reader of operands. Assumes
 -- nothing.
-use mathlib.Core.Path.{◌≡◌, refl, ◌∙◌}
+use mathlib.Core.Path.{◌≡◌, refl, sym, ap, ◌∙◌}
 use mathlib.Core.Bool.{Bool, true, false, ◌&&◌}
 use mathlib.Core.List.{List, []}
 use Prim.Native.Nat.{ℕ, zero, suc, ◌-◌}
@@ -18,6 +18,7 @@ use Rattle.grammar.specs.Tokens.{is, shape_of, look_up}
 use Rattle.grammar.specs.declared.Inner.{Inner}
 use Rattle.grammar.specs.declared.Names.{Names}
 use Rattle.grammar.specs.declared.Token.TheVariants.{End, Name, Digits, ClockDef, Await, Open, Close, For}
+use Rattle.grammar.proofs.TokenLaws.{told_apart}
 
 -- ---- what every reading has
 abbrev pub Each : {A : Type 0} → (A → List Span → Type 0) → Parsed A → Type 0
@@ -108,6 +109,11 @@ module _ (t : List ℕ) (ns : Names) (n : ℕ) (s : Inner) (ws : List Span) wher
       go : (m : ℕ) → (m ≡ 0 → ⊥) → operand t ns m s ws ≡ and_then (expression t (operand t ns (m - 1)) s (rest ws)) (inner t)
       go zero k = absurd (k refl)
       go (suc m) k = let z : suc m - 1 ≡ m = omega arith in rw (e, z)
+
+-- a name is read as an operand at every level
+pub operand_read_lem : (t : List ℕ) (ns : Names) (n : ℕ) (s : Inner) (ws : List Span) (k : ℕ) → is Name (token t ws) ≡ true → k ≡ clock_at t ns (front t ws)
+    → operand t ns n s ws ≡ parsed (record { left = s; clock = k }) (rest ws)
+operand_read_lem t ns n s ws k e q = operand_name t ns n s ws (told_apart Name Open (token t ws) e) ∙ name_some t ws ns s e ∙ ap (λ (c : ℕ). parsed (record { left = s; clock = c }) (rest ws)) (sym q)
 
 pub inner_some : (t : List ℕ) (p : Parsed (Formed Inner)) (f : Formed Inner) (us : List Span) → p ≡ parsed f us → (is Close (token t us) && is_side true f.constraint.kind) ≡ true
     → and_then p (inner t) ≡ parsed (record { left = with_implicit f.left f.constraint; clock = provisional f.left.clocks }) (rest us)

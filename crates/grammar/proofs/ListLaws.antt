@@ -40,6 +40,11 @@ module _ (t : List ℕ) where
   none_past [] e = refl
   none_past (w ∷ ws) e = rw e
 
+  -- no word is left
+  pub run_end_lem : (delay_numbers t [] ≡ []) × (past_digits t [] ≡ [])
+  unfolding delay_numbers past_digits
+  run_end_lem = (refl, refl)
+
 -- ---- number by number
 
 -- the list so far, and what the numbers that are left come to

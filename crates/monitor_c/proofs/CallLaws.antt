@@ -1,11 +1,14 @@
 -- The checks of each call, in their order, and what it writes where all are passed. Assumes nothing.
-use mathlib.Core.Path.{◌≡◌, refl, ap, ◌∙◌}
+use mathlib.Core.Path.{◌≡◌, refl, sym, ap, ◌∙◌}
 use mathlib.Core.Bool.{Bool, true, false, cond, not}
-use mathlib.Core.List.{List}
-use Prim.Native.Nat.{ℕ}
+use mathlib.Core.List.{List, [], ◌∷◌}
+use Prim.Native.Nat.{ℕ, ◌%◌, ◌≤◌, ◌<◌}
+use native.Mathlib.Omega.{arith}
+use borrow.Author.Tests.{lt-ltb, le-ltb, eq-eqb, ne_eqb}
 use lib.Dec.{ltb}
 use lib.IntN.{ℤ}
 use lib.ListN.{length, take}
+use lib.Seq.{sets}
 use Rattle.std.specs.Prelude.{Ok, Err}
 use Rattle.constraint.specs.SamePlace.{Answer, same_place_of}
 use Rattle.constraint.specs.declared.Constraint.{Constraint}
@@ -15,15 +18,28 @@ use Rattle.judging.specs.declared.Stopped.{Stopped}
 use Rattle.judging.specs.declared.Stopped.TheVariants.{Violated, Refused}
 use Rattle.constraint.specs.declared.Configuration.{Configuration}
 use Rattle.recording.specs.declared.UnknownNames.{UnknownNames}
+use Rattle.table.specs.Reader as table
 use Rattle.run.specs.Run.{Told, run_of}
 use Rattle.reading.specs.Recorded as recorded
 use Rattle.reading.specs.Recorded.{recorded_into}
+use Rattle.reading.specs.Written.{written}
+use Rattle.reading.specs.declared.NoRoom.{NoRoom}
+use Rattle.reading.specs.declared.RecordingRead.{RecordingRead}
 use Rattle.order.specs.Order.{OrderTold, order_of}
+use Rattle.monitor_c.specs.declared.AnswerNumbers.{AnswerNumbers}
 use Rattle.monitor_c.specs.declared.Status.{Status}
 use Rattle.monitor_c.specs.declared.Status.TheVariants.{AnswerShort, WordsShort, RecordsRagged, KindUnknown, OrderShort, ChoiceInvalid}
-use Rattle.monitor_c.specs.Calls.{room, choice, run_left, run_into, recorded_left, recording_into, ragged, shape, Left, on_records, start_left, start_into, step_words, step_left, step_into, place_left, place_into, ordered_left, order_into}
-use Rattle.monitor_c.specs.Numbers.{unknown_of, clocks_of, records_of, kinds_known, configuration_of}
+use Rattle.monitor_c.specs.Calls.{done, answer_short, words_short, records_ragged, kind_unknown, order_short, steps_short, left, order_left, steps_left, room, choice, run_left, run_into, recorded_left, recording_into, ragged, shape, Left, on_records, start_left, start_into, step_words, step_left, step_into, place_left, place_into, ordered_left, order_into}
+use Rattle.monitor_c.specs.Numbers.{unknown_of, clocks_of, records_of, kinds_known, configuration_of, of_table, answer_and}
+use Rattle.reading.proofs.StoreLaws.{sets_append, sets_written}
 use Rattle.monitor_c.proofs.First65.{start_first, step_first, place_first, order_first}
+
+-- an answer of three numbers, with others stored behind it
+pub stored_behind : (t : AnswerNumbers) (ns out : List ℕ) → length (answer_and t ns) ≤ length out → sets (written (answer_and t []) out) 3 ns ≡ written (answer_and t ns) out
+stored_behind t ns out room =
+    ap (λ (xs : List ℕ). sets xs 3 ns) (sym (sets_written (answer_and t []) out (omega (arith, room))))
+    ∙ sym (sets_append (answer_and t []) ns out 0)
+    ∙ sets_written (answer_and t ns) out room
 
 -- a list has room for so many
 abbrev pub Room : (length least : ℕ) → Status → Type 0
@@ -78,6 +94,14 @@ module _ (t r : List ℕ) (u : ℕ) (n : UnknownNames) (chose : choice u ≡ Ok 
       let k = chosen u n chose in
       rw (not_short (length out) 4 AnswerShort a, k.known) (ap (λ z. recorded_left z out) (e ∙ ap (λ m. recorded_into t r m ts ms fs) k.is))
 
+-- what a reading left, as its answer tells
+module _ (out ts ms fs : List ℕ) where
+  pub recording_steps_short : (n : NoRoom) → steps_left steps_short out ts ms fs ≡ recorded_left (recorded.left (Err n) ts ms fs) out
+  recording_steps_short n = refl
+
+  pub recording_read : (q : RecordingRead) → steps_left done (written (answer_and (of_table (table.said q.outcome)) (q.steps ∷ [])) out) ts ms fs ≡ recorded_left (recorded.left (Ok q) ts ms fs) out
+  recording_read q = refl
+
 -- ---- ccsl_start_words and ccsl_step
 
 module _ (ns out : List ℕ) (ws : List ℤ) (a : Room (length out) 3 AnswerShort) (w : Room (length ws) 128 WordsShort) (r : shape ns ≡ Ok (tt {0})) where
@@ -95,6 +119,23 @@ module _ (ns out : List ℕ) (ws : List ℤ) (a : Room (length out) 3 AnswerShor
     stepped f t e =
         ap (λ u. step_left u out ws) (e ∙ step_first (clocks_of named clocks) (records_of ns) (configuration_of ws) f)
         ∙ in_shape (step_left (step_of (clocks_of named clocks) (records_of ns) (configuration_of ws) f) out ws)
+
+module _ (ns out : List ℕ) (ws : List ℤ) (l : Left) where
+  pub answer_short_lem : length out < 3 → left answer_short out ws ≡ on_records ns out ws l
+  unfolding on_records
+  answer_short_lem a = rw (lt-ltb (length out) 3 a) refl
+
+  pub words_short_lem : 3 ≤ length out → length ws < 128 → left words_short out ws ≡ on_records ns out ws l
+  unfolding on_records
+  words_short_lem a w = rw (le-ltb (length out) 3 a, lt-ltb (length ws) 128 w) refl
+
+  pub records_ragged_lem : 3 ≤ length out → 128 ≤ length ws → (length ns % 8 ≡ 0 → ⊥) → left records_ragged out ws ≡ on_records ns out ws l
+  unfolding on_records
+  records_ragged_lem a w r = rw (le-ltb (length out) 3 a, le-ltb (length ws) 128 w, ne_eqb (length ns % 8) 0 r) refl
+
+  pub kind_unknown_lem : 3 ≤ length out → 128 ≤ length ws → length ns % 8 ≡ 0 → kinds_known ns ≡ false → left kind_unknown out ws ≡ on_records ns out ws l
+  unfolding on_records
+  kind_unknown_lem a w r k = rw (le-ltb (length out) 3 a, le-ltb (length ws) 128 w, eq-eqb (length ns % 8) 0 r, k) refl
 
 -- a step that is not taken leaves the words alone
 pub left_alone : (why : Stopped) (c : Configuration) (ws : List ℤ) → ws ≡ step_words (stopped_said why) c ws
@@ -121,3 +162,8 @@ ordered ns named clocks out os a r o t e =
     let s = shaped ns r in
     rw (not_short (length out) 4 AnswerShort a, not_short (length os) 32 OrderShort o, s.even, s.known)
     (ap (λ u. ordered_left u out os) (e ∙ order_first (clocks_of named clocks) (records_of ns)))
+
+pub order_short_lem : (ns : List ℕ) (named clocks : ℕ) (out os : List ℕ)
+    → 4 ≤ length out → length ns % 8 ≡ 0 → kinds_known ns ≡ true → length os < 32 → order_left order_short out os ≡ order_into ns named clocks out os
+unfolding order_into
+order_short_lem ns named clocks out os a r k o = rw (le-ltb (length out) 4 a, eq-eqb (length ns % 8) 0 r, k, lt-ltb (length os) 32 o) refl

@@ -13,4 +13,5 @@ pub mod RowLaws
 pub mod Standing
 pub mod TurnLaws
 pub mod Turns
+pub mod Walk
 pub mod Working
