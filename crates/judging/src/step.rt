@@ -41,11 +41,7 @@ fn by_numbers(word: Word) -> Word
 // Record by record: the first that fails ends it; the first whose word leaves its million is remembered. Each word is moved where it stands, so that
 // words are moved too where the step turns out not to be taken.
 #[inline(always)]
-fn judge_each(
-    records: &[Constraint],
-    words: &mut [Word; 64],
-    ticks: TickSet,
-) -> Result<(), NotHeld>
+fn judge_each(records: &[Constraint], words: &mut [Word; 64], ticks: TickSet) -> Result<(), NotHeld>
     requires { length records.now ≤ 64 }
     ensures { k.words_of (k.taken result words.new) ≡ k.walked (bits ticks) 1 None records.now words.old }
 {

@@ -8,7 +8,7 @@ use Rattle.judging.proofs.step.judge_each.Goals as goal
 use Rattle.judging.proofs.step.judge_each.Goals.{in-Moves, in-Leaves}
 
 pub loop-i-init : goal.loop-i-init
-loop-i-init c = record { size = search rules; gives = onto_none _; }
+loop-i-init c = record { size = search rules; gives = onto_none _ }
 
 pub loop-i-preserved : goal.loop-i-preserved
 loop-i-preserved c =
