@@ -1,4 +1,5 @@
 pub mod GrammarLaws
 pub mod KindLaws
 pub mod ListLaws
+pub mod Padding
 pub mod TokenLaws

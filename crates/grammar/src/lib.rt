@@ -34,8 +34,8 @@ pub enum Token {
 }
 
 // Where the names of the table's clocks first stand, in the order of their numbers, and whether a 33rd was named; in
-// clauses a list and a flag, which an `ArrayVec` beside the flag would be no plainer for.
-#[derive(Drop)]
+// clauses a list and a flag, which an `ArrayVec` beside the flag would be no plainer for. Behind the last, spans are empty: see `Constraints`.
+#[derive(Clone, Copy)]
 pub struct Names {
     spans: [Span; 32],
     count: usize,
@@ -43,18 +43,26 @@ pub struct Names {
 }
 
 impl Model for Names {
-    ghost use Rattle.std.specs.Prelude.{◌≡◌, ◌≤◌, length, take};
+    ghost use Rattle.std.specs.Prelude.{length, take};
+    ghost use Rattle.std.proofs.Common.{sym};
+    ghost use mathlib.Core.Path.{ap₂};
+    ghost use Rattle.text.specs.Split.{span};
+    ghost use Rattle.grammar.specs.Fields.{padded, IsPadded};
     ghost use Rattle.grammar.specs.NameList.{NameList};
 
     ghost Value = { NameList };
 
     ghost view = { λ n. record { spans = take n.count n.spans; over = n.over } };
 
-    ghost invariant = { λ n. (n.count ≤ 32) × (length n.spans ≡ 32) };
+    ghost invariant = { λ n. IsPadded 32 (span 0 0) n.count n.spans };
+
+    ghost inverse = { λ ns. record { spans = padded 32 (span 0 0) ns.spans; count = length ns.spans; over = ns.over } };
+
+    ghost inverse_ok = { λ n h. ap₂ (λ ps k. record { spans = ps; count = k; over = n.over }) (sym h.2) h.1 };
 }
 
 // The records in table order, the names of their clocks, and how many implicit clocks there are.
-#[derive(Drop)]
+#[derive(Clone, Copy)]
 pub struct Table {
     pub records: Constraints<64>,
     pub names: Names,
@@ -62,14 +70,14 @@ pub struct Table {
 }
 
 // The table so far, and the named clocks that it defines.
-#[derive(Drop)]
+#[derive(Clone, Copy)]
 pub struct Builder {
     pub table: Table,
     pub defined: TickSet,
 }
 
 // How many implicit clocks there are so far, in the lines above and in the line at hand, and the definitions of those that the line has.
-#[derive(Drop)]
+#[derive(Clone, Copy)]
 pub struct Inner {
     pub clocks: usize,
     pub definitions: Constraints<32>,

@@ -7,7 +7,7 @@ ghost use Rattle.grammar.specs.Names.{number_in};
 
 use super::list::{delay_list, number_up_to};
 use super::words::eat;
-use super::{LineReader, Token};
+use super::{LineReader, Names, Token};
 use constraint::{Constraint, Definition, Kind, Relation};
 use limit::Place;
 
@@ -83,17 +83,16 @@ fn sides(kind: Kind, first: u8, second: u8) -> Constraint
     }
 }
 
+// The clock whose name a word is; a name that there is no room for has none.
+fn clock_in(names: &Names, line: &[u8], name: &[u8]) -> u8
+    ensures { result ≡ g.clock_of (number_in line.now names.now name.now) }
+{
+    names.find(line, name).unwrap_or(NO_CLOCK)
+}
+
 impl<'a> LineReader<'a> {
     ghost use Rattle.std.specs.Prelude.{◌≡◌};
     ghost use Rattle.grammar.specs.Answers.{line, left, operands, Keeps, Defines, clock_read, kind_read, kind_in, word_kind, form_read};
-
-    // The clock whose name a word is; a name that there is no room for has none.
-    fn clock(&self, name: &[u8]) -> u8
-        ensures { result ≡ g.clock_of (number_in (line self.now) self.now.names.now name.now) }
-    {
-        let names = self.names;
-        names.find(self.words.text, name).unwrap_or(NO_CLOCK)
-    }
 
     // An operand that is the name of a clock.
     #[tactic(auto, unfolding(crate::specs::Grammar::name, crate::specs::Grammar::only_if))]
@@ -102,7 +101,8 @@ impl<'a> LineReader<'a> {
         ensures kept { Keeps self.old self.new }
     {
         let word = eat(&mut self.words, Token::Name)?;
-        Some(self.clock(word))
+        let names = self.names;
+        Some(clock_in(names, self.words.text, word))
     }
 
     // A kind: one word, or two where the first is `strictly`.
@@ -226,7 +226,8 @@ impl<'a> LineReader<'a> {
         let name = eat(&mut ahead, Token::Name)?;
         eat(&mut ahead, Token::ClockDef)?;
         self.words = ahead;
-        Some(self.clock(name))
+        let names = self.names;
+        Some(clock_in(names, self.words.text, name))
     }
 
     // A form of the side that the line asks for, with no word after it, which defines a clock.

@@ -4,19 +4,19 @@ use Rattle.std.specs.Prelude.{Some, None}
 use Rattle.std.specs.List.{list_any}
 use mathlib.Core.Path.{◌≡◌, refl, sym, ap, ◌∙◌}
 use mathlib.Core.Bool.{Bool, true, false, cond, ◌||◌}
-use mathlib.Core.List.{List, [], ◌∷◌, ◌++◌}
-use Prim.Native.Nat.{ℕ, zero, suc, ◌+◌, ◌*◌, ◌/◌, ◌%◌, ◌≤◌, ◌<◌}
+use mathlib.Core.List.{List, [], ◌∷◌, ◌++◌, map}
+use Prim.Native.Nat.{ℕ, zero, suc, ◌+◌, ◌-◌, ◌*◌, ◌/◌, ◌%◌, ◌≤◌, ◌<◌, min}
 use native.Mathlib.Numerals.{add-one}
 use native.Mathlib.Omega.{arith}
 use borrow.Author.Tests.{eqb-true, eqb-false, ltb-false, eq-eqb, ne_eqb, ltb-true, lt-ltb, le-leb, lt-leb}
 use lib.Dec.{eqb, ltb}
-use lib.ListN.{length, take, drop, get_or, set}
+use lib.ListN.{length, take, drop, get_or, set, replicate}
 use lib.Seq.{drop-nil, get_or-set_same, get_or-set_other}
 use Rattle.constraint.proofs.Booleans.{and_l, and_r}
 use Rattle.text.specs.Bytes.{all_bytes, same_bytes}
 use Rattle.text.proofs.Bytes.{same_equal, equal_same}
 use Rattle.recording.specs.Variables.{Variable, with_id, look_up, has_clock, all_declared}
-use Rattle.recording.specs.Index.{code_of, digit_of, Bytes, bytes_of_code, variables_of, declared, bucket_of, Starts}
+use Rattle.recording.specs.Index.{code_of, digit_of, Bytes, bytes_of_code, variables_of, declared, bucket_of, Starts, starting, starts_with, fields}
 use Rattle.recording.specs.declared.variables.Variables.TheInside.{Inside}
 
 -- ---- ids as numbers
@@ -126,6 +126,9 @@ variables_more n cs ks c k p q = rw (add-one n) (go n cs ks p q)
     go zero (x ∷ cs) (y ∷ ks) p q = refl
     go (suc n) (x ∷ cs) (y ∷ ks) p q = ap (λ (vs : List Variable). record { id = bytes_of_code 5 x; clock = y } ∷ vs) (go n cs ks (omega arith) (omega arith))
 
+pub code_kept : (c : ℕ) (id : List ℕ) → c ≡ code_of id → Bytes id → length id ≤ 4 → code_of (bytes_of_code 5 c) ≡ c
+code_kept c id e t h = rw e (ap code_of (code_back 5 id (omega (arith, h)) t))
+
 pub declared_more : (vs : List Variable) (id : List ℕ) (c k m : ℕ) → c ≡ code_of id → Bytes id → length id ≤ 4 → k ≡ m
     → vs ++ record { id = bytes_of_code 5 c; clock = k } ∷ [] ≡ vs ++ record { id = id; clock = m } ∷ []
 declared_more vs id c k m e t h q = rw (e, code_back 5 id (omega arith) t, q)
@@ -216,3 +219,59 @@ starts_skip n cs ks ss w p q starts short t (suc k) low = go (ltb k n) refl ∙ 
     go : (y : Bool) → ltb k n ≡ y → with_id (drop (suc k) (variables_of n cs ks)) w ≡ with_id (drop k (variables_of n cs ks)) w
     go true e = let h = ltb-true k n e in rw (← add-one k) (sym (id_on n cs ks k w h p q short t (differs h)))
     go false e = let h = ltb-false k n e in id_done n cs ks (suc k) w (omega (arith, h)) ∙ sym (id_done n cs ks k w h)
+
+-- ---- the fields that a list of variables gives
+
+length_more : (vs : List Variable) (v : Variable) → length (vs ++ v ∷ []) ≡ length vs + 1
+length_more [] v = omega arith
+length_more (u ∷ us) v = omega (arith, length_more us v)
+
+-- one number more, where there is room behind the others
+number_more : (f : Variable → ℕ) (vs : List Variable) (v : Variable) (k : ℕ)
+    → map f (vs ++ v ∷ []) ++ replicate k 0 ≡ set (map f vs ++ replicate (suc k) 0) (length vs) (f v)
+number_more f [] v k = refl
+number_more f (u ∷ us) v k = ap (λ (xs : List ℕ). f u ∷ xs) (number_more f us v k)
+
+numbers_more : (f : Variable → ℕ) (vs : List Variable) (v : Variable) → length vs < 128
+    → map f (vs ++ v ∷ []) ++ replicate (128 - length (vs ++ v ∷ [])) 0 ≡ set (map f vs ++ replicate (128 - length vs) 0) (length vs) (f v)
+numbers_more f vs v h =
+    let more : 128 - length vs ≡ suc (128 - length (vs ++ v ∷ [])) = omega (arith, length_more vs v, h) in
+    rw more (number_more f vs v (128 - length (vs ++ v ∷ [])))
+
+starting_on : (ss : List ℕ) (i : ℕ) (vs : List Variable) (v : Variable) → starts_with ss i (vs ++ v ∷ []) ≡ starting (starts_with ss i vs) (i + length vs) v
+unfolding starts_with
+starting_on ss i [] v = let none : i + 0 ≡ i = omega arith in rw none
+starting_on ss i (u ∷ us) v = let on : i + suc (length us) ≡ suc i + length us = omega arith in rw on (starting_on (starting ss i u) (suc i) us v)
+
+starting_more : (ss : List ℕ) (vs : List Variable) (v : Variable) → starts_with ss 0 (vs ++ v ∷ []) ≡ starting (starts_with ss 0 vs) (length vs) v
+starting_more ss vs v = let none : 0 + length vs ≡ length vs = omega arith in rw none at (starting_on ss 0 vs v)
+
+-- the fields with one variable more
+abbrev with_one : Inside → Variable → Inside
+with_one u v = record {
+  ids = set u.ids u.count (code_of v.id);
+  clocks = set u.clocks u.count v.clock;
+  count = u.count + 1;
+  starts = starting u.starts u.count v;
+}
+
+fields_more : (vs : List Variable) (v : Variable) → length vs < 128 → fields (vs ++ v ∷ []) ≡ with_one (fields vs) v
+unfolding fields
+fields_more vs v h = λ i. record {
+  ids = numbers_more (λ (u : Variable). code_of u.id) vs v h i;
+  clocks = numbers_more (λ (u : Variable). u.clock) vs v h i;
+  count = length_more vs v i;
+  starts = starting_more (replicate 241 128) vs v i;
+}
+
+-- what was declared gives the fields with one variable more, whose id has the number c
+pub given_more : (v : Inside) (c k b s : ℕ) → v.count < 128 → v.count < length v.ids → v.count < length v.clocks → length (declared v) ≡ v.count
+    → code_of (bytes_of_code 5 c) ≡ c → b ≡ bucket_of c → s ≡ min (get_or v.starts b 0) v.count → fields (declared v) ≡ v
+    → fields (variables_of (v.count + 1) (set v.ids v.count c) (set v.clocks v.count k))
+    ≡ record { ids = set v.ids v.count c; clocks = set v.clocks v.count k; count = v.count + 1; starts = set v.starts b s }
+given_more v c k b s room inside beside counted back is low given =
+    let x : Variable = record { id = bytes_of_code 5 c; clock = k } in
+    ap fields (variables_more v.count v.ids v.clocks c k inside beside)
+    ∙ (fields_more (declared v) x (omega (arith, counted, room))
+    ∙ (ap (λ (u : Inside). with_one u x) given
+    ∙ rw (back, low, is)))

@@ -1,6 +1,6 @@
 -- Of the code's shape: variables as code holds them, their ids as numbers, with an index of buckets where the search for an id begins.
 -- Assumes nothing.
-use Rattle.std.specs.Prelude.{◌≡◌, true, List, [], ◌∷◌, ℕ, zero, suc, ◌+◌, ◌*◌, ◌/◌, ◌%◌, ◌≤◌, ◌<◌, ltb, length, get_or}
+use Rattle.std.specs.Prelude.{◌≡◌, true, List, [], ◌∷◌, ◌++◌, ℕ, zero, suc, ◌+◌, ◌-◌, ◌*◌, ◌/◌, ◌%◌, ◌≤◌, ◌<◌, ltb, min, map, replicate, length, get_or, set}
 use Rattle.text.specs.Bytes.{all_bytes}
 use Rattle.recording.specs.Variables.{Variable}
 use Rattle.recording.specs.declared.variables.Variables.TheInside.{Inside}
@@ -43,8 +43,32 @@ bucket_of c = c % 241
 abbrev pub Starts : (count : ℕ) → (ids starts : List ℕ) → Type 0
 Starts n cs ss = (j : ℕ) → j < n → get_or ss (bucket_of (get_or cs j 0)) 0 ≤ j
 
--- of the variables in code
+-- ---- the fields that a list of variables gives
+
+-- a variable with a number starts its bucket, unless one before it does
+abbrev pub starting : (starts : List ℕ) → (i : ℕ) → Variable → List ℕ
+starting ss i v = set ss (bucket_of (code_of v.id)) (min (get_or ss (bucket_of (code_of v.id)) 0) i)
+
+-- the starts with the variables from number i on
+unfoldable pub starts_with : (starts : List ℕ) → (i : ℕ) → List Variable → List ℕ
+starts_with ss i [] = ss
+starts_with ss i (v ∷ vs) = starts_with (starting ss i v) (suc i) vs
+
+-- behind the last variable ids and clocks are 0; a bucket without one starts behind all that may come
+unfoldable pub fields : List Variable → Inside
+fields vs = record {
+  ids = map (λ v. code_of v.id) vs ++ replicate (128 - length vs) 0;
+  clocks = map (λ v. v.clock) vs ++ replicate (128 - length vs) 0;
+  count = length vs;
+  starts = starts_with (replicate 241 128) 0 vs;
+}
+
+-- of the variables in code, which are no others than their list gives
 pub record Indexed (v : Inside) : Type 0 where
   pub few : v.count ≤ 128
   pub counted : length (declared v) ≡ v.count
   pub begins : Starts v.count v.ids v.starts
+  pub given : fields (declared v) ≡ v
+
+pub fields_back : (v : Inside) → Indexed v → fields (declared v) ≡ v
+fields_back v h = h.given

@@ -7,8 +7,9 @@ use super::NO_CLOCK;
 use std::marker::Model;
 
 // At most 128 variables, in the order of their declarations: the numbers that stand for their ids, and the numbers of their clocks, 32 where
-// the table has none of that name. Ids are parted into buckets; a search for one begins where its bucket starts. Clauses see the list of variables.
-#[derive(Drop)]
+// the table has none of that name. Ids are parted into buckets; a search for one begins where its bucket starts. Clauses see the list of variables,
+// which gives the fields back: behind the last, numbers are 0, and a bucket starts at the first of its variables, or at 128.
+#[derive(Clone, Copy)]
 pub struct Variables {
     ids: [u64; 128],
     clocks: [u8; 128],
@@ -22,11 +23,15 @@ impl Model for Variables {
 
     ghost Value = { List Variable };
 
-    ghost use Rattle.recording.specs.Index.{declared, Indexed};
+    ghost use Rattle.recording.specs.Index.{declared, Indexed, fields, fields_back};
 
     ghost view = { declared };
 
     ghost invariant = { Indexed };
+
+    ghost inverse = { fields };
+
+    ghost inverse_ok = { fields_back };
 }
 
 // The digit of the byte at an index, 0 past the end.
@@ -64,7 +69,7 @@ fn bucket(code: u64) -> usize
 
 impl Variables {
     // No variables: every bucket starts behind all that may come.
-    #[tactic(auto, unfolding(crate::specs::Index::variables_of))]
+    #[tactic(auto, unfolding(crate::specs::Index::variables_of, crate::specs::Index::fields, crate::specs::Index::starts_with))]
     pub fn new() -> Self
         ensures { result ≡ [] }
     {
