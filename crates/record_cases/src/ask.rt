@@ -1,5 +1,5 @@
 // The questions, and what the calls answer. Behind a step stand the words of which a part is not 0, as place and word.
-use super::line::{Line, SLOTS};
+use super::line::{Line, ROOM, SLOTS};
 use super::word::{byte_of, set_of};
 use console::Part;
 use constraint::{
@@ -89,7 +89,7 @@ impl Question {
     }
 
     // Asks the call, and prints its answer.
-    pub fn ask<R: Print + AllocGlobal>(self, rt: &R, line: &Line<'_>) -> io::Result<()> {
+    pub fn ask(self, rt: &impl Print, line: &Line<'_>) -> io::Result<()> {
         match self {
             Question::Step => step(rt, line),
             Question::Advance => advance(rt, line),
@@ -98,14 +98,16 @@ impl Question {
             Question::Range => range(rt, line),
             Question::Fits => fits(rt, line),
             Question::BrokenRecord => {
-                let records = line.records(rt.alloc(), &SLOTS[..3])?;
-                say_broken(rt, broken_record(&records, line.clocks()))
+                let mut room = [Constraint::EMPTY; ROOM];
+                let records = line.records(&SLOTS[..3], &mut room);
+                say_broken(rt, broken_record(records, line.clocks()))
             }
             Question::BrokenWord => {
-                let records = line.records(rt.alloc(), &SLOTS[..3])?;
+                let mut room = [Constraint::EMPTY; ROOM];
+                let records = line.records(&SLOTS[..3], &mut room);
                 say_broken(
                     rt,
-                    broken_word(&records, &line.configuration("words", "used")),
+                    broken_word(records, &line.configuration("words", "used")),
                 )
             }
             Question::WithTick => with_tick(rt, line),
@@ -115,33 +117,36 @@ impl Question {
 }
 
 // The single step.
-fn step<R: Print + AllocGlobal>(rt: &R, line: &Line<'_>) -> io::Result<()> {
-    let records = line.records(rt.alloc(), &SLOTS)?;
+fn step(rt: &impl Print, line: &Line<'_>) -> io::Result<()> {
+    let mut room = [Constraint::EMPTY; ROOM];
+    let records = line.records(&SLOTS, &mut room);
     let before = line.configuration("words", "used");
-    match lent::step(&records, line.clocks(), before, line.set("step")) {
+    match lent::step(records, line.clocks(), before, line.set("step")) {
         Ok(after) => say_step(rt, None, &after),
         Err(stopped) => say_step(rt, Some(stopped), &before),
     }
 }
 
 // The lent monitor, moved forward from where the words say that it stands.
-fn advance<R: Print + AllocGlobal>(rt: &R, line: &Line<'_>) -> io::Result<()> {
-    let records = line.records(rt.alloc(), &SLOTS)?;
+fn advance(rt: &impl Print, line: &Line<'_>) -> io::Result<()> {
+    let mut room = [Constraint::EMPTY; ROOM];
+    let records = line.records(&SLOTS, &mut room);
     let mut monitor = Monitor {
         configuration: line.configuration("words", "used"),
     };
     let stopped = monitor
-        .advance(&records, line.clocks(), line.set("advance"))
+        .advance(records, line.clocks(), line.set("advance"))
         .err();
     say_step(rt, stopped, &monitor.configuration)
 }
 
 // The same-place question.
-fn same_place<R: Print + AllocGlobal>(rt: &R, line: &Line<'_>) -> io::Result<()> {
-    let records = line.records(rt.alloc(), &SLOTS)?;
+fn same_place(rt: &impl Print, line: &Line<'_>) -> io::Result<()> {
+    let mut room = [Constraint::EMPTY; ROOM];
+    let records = line.records(&SLOTS, &mut room);
     let first = line.configuration("words", "used");
     let second = line.configuration("second", "second_used");
-    match lent::same_place(&records, line.clocks(), first, second) {
+    match lent::same_place(records, line.clocks(), first, second) {
         Ok(Likeness::Same) => print!(rt; " same"),
         Ok(Likeness::Different) => print!(rt; " different"),
         Err(refusal) => print!(rt; " {refusal}"),
@@ -149,9 +154,10 @@ fn same_place<R: Print + AllocGlobal>(rt: &R, line: &Line<'_>) -> io::Result<()>
 }
 
 // The monitor that the records start with.
-fn start<R: Print + AllocGlobal>(rt: &R, line: &Line<'_>) -> io::Result<()> {
-    let records = line.records(rt.alloc(), &SLOTS)?;
-    match Monitor::start(&records, line.clocks()) {
+fn start(rt: &impl Print, line: &Line<'_>) -> io::Result<()> {
+    let mut room = [Constraint::EMPTY; ROOM];
+    let records = line.records(&SLOTS, &mut room);
+    match Monitor::start(records, line.clocks()) {
         Ok(monitor) => print!(rt; " started{}", Moved(&monitor.configuration)),
         Err(refusal) => print!(rt; " {refusal}"),
     }

@@ -3,7 +3,6 @@ use super::ask::Question;
 use super::word::{Item, byte_of, item_of, kind_of, part_of, set_of};
 use constraint::{Clocks, Configuration, Constraint, Kind, TickSet};
 use limit::Place;
-use std::alloc::{AllocError, Global};
 use std::array;
 use text::{Class, Words};
 
@@ -28,6 +27,9 @@ pub const SLOTS: [(&str, usize); 5] = [
     ("66th", 65),
 ];
 
+// As many records as a line can count.
+pub const ROOM: usize = 66;
+
 // Whether a word is one that a line may have.
 fn is_known(word: &[u8]) -> bool {
     item_of(word).is_some()
@@ -38,11 +40,11 @@ fn is_known(word: &[u8]) -> bool {
 }
 
 // The numbers in front of the first word that is none; each of the 64 that is left out is another number. An index, since dots go on with the last.
-fn numbers(words: &[&[u8]], other: i64) -> [i64; 64] {
+fn numbers(words: Words<'_>, other: i64) -> [i64; 64] {
     let mut all = [other; 64];
     let mut next = 0;
     for word in words {
-        match item_of(word) {
+        match item_of(word.bytes) {
             Some(Item::Number(n)) => {
                 if let Some(place) = all.get_mut(next) {
                     *place = n;
@@ -56,34 +58,38 @@ fn numbers(words: &[&[u8]], other: i64) -> [i64; 64] {
     all
 }
 
-// The words of a line behind its colon.
-#[derive(Drop)]
+// The words of a line behind its colon, each time walked over from the first on.
+#[derive(Clone, Copy)]
 pub struct Line<'a> {
-    pub words: Vec<&'a [u8]>,
+    pub words: Words<'a>,
 }
 
 impl<'a> Line<'a> {
-    pub fn of(alloc: Global, text: &'a [u8]) -> Result<Line<'a>, AllocError> {
-        let words = Words::new(Class::Space, text)
-            .map(|word| word.bytes)
-            .collect(alloc)?;
-        Ok(Line { words })
+    pub fn of(text: &'a [u8]) -> Line<'a> {
+        Line {
+            words: Words::new(Class::Space, text),
+        }
     }
 
     // Whether every word is one that a line may have.
     pub fn is_known(&self) -> bool {
-        self.words.iter().all(|word| is_known(word))
+        let mut words = self.words;
+        words.all(|word| is_known(word.bytes))
     }
 
     // The words behind a word, if the line has it.
-    fn behind(&self, key: &str) -> Option<&[&'a [u8]]> {
-        let i = self.words.iter().position(|word| *word == key.as_bytes())?;
-        self.words.get(i + 1..)
+    fn behind(&self, key: &str) -> Option<Words<'a>> {
+        let mut words = self.words;
+        words.find(|word| word.bytes == key.as_bytes())?;
+        Some(words)
     }
 
     // The numbers behind a word; each that is left out, and all where the line lacks the word, is another number.
     fn numbers(&self, key: &str, other: i64) -> [i64; 64] {
-        numbers(self.behind(key).unwrap_or(&[]), other)
+        match self.behind(key) {
+            Some(words) => numbers(words, other),
+            None => [other; 64],
+        }
     }
 
     // The numbers behind a word, 0 where they are left out.
@@ -124,13 +130,13 @@ impl<'a> Line<'a> {
 
     // The record behind a word: a form, and the numbers of a, b, c and n, or of a delay's list instead of n.
     fn record(&self, key: &str) -> Option<Constraint> {
-        let words = self.behind(key)?;
-        let Some((form, words)) = words.split_first() else {
+        let mut words = self.behind(key)?;
+        let Some(form) = words.next() else {
             return Some(Constraint::EMPTY);
         };
         let all = numbers(words, 4_000_000_000);
         Some(Constraint {
-            kind: kind_of(form, &all[3..]).unwrap_or(Kind::Empty),
+            kind: kind_of(form.bytes, &all[3..]).unwrap_or(Kind::Empty),
             defined: byte_of(all[2]),
             first: byte_of(all[0]),
             second: byte_of(all[1]),
@@ -146,19 +152,21 @@ impl<'a> Line<'a> {
         }
     }
 
-    // As many records as the line counts, 1 where it does not say it: each the one behind `every`, but where the line says another.
-    pub fn records(
+    // As many records as the line counts, 1 where it does not say it: each the one behind `every`, but where the line says another. They stand in the
+    // caller's room, since there is no heap.
+    pub fn records<'r>(
         &self,
-        alloc: Global,
         slots: &[(&str, usize)],
-    ) -> Result<Vec<Constraint>, AllocError> {
-        let count = self.number("count", 1).unsigned_abs().min(66) as usize;
-        let mut records = vec![in alloc; self.every(); count]?;
+        room: &'r mut [Constraint; ROOM],
+    ) -> &'r [Constraint] {
+        let count = self.number("count", 1).unsigned_abs().min(ROOM as u64) as usize;
+        let records = &mut room[..count];
+        records.fill(self.every());
         for (key, i) in slots {
-            if let (Some(slot), Some(record)) = (records.get_mut(*i), self.record(key)) {
-                *slot = record;
+            if let Some(slot) = records.get_mut(*i) {
+                *slot = self.record(key).unwrap_or(*slot);
             }
         }
-        Ok(records)
+        records
     }
 }

@@ -28,12 +28,13 @@ fn asked<'a>(text: &[u8], line: &Line<'a>) -> Option<Question> {
     if text.last() == Some(&b' ') || !line.is_known() {
         return None;
     }
-    Question::of(line.words.first()?)
+    let mut words = line.words;
+    Question::of(words.next()?.bytes)
 }
 
 // The answer to a line: its name, a colon, and what the calls say. One without bytes, and one that starts with a minus sign, asks nothing. One without
 // a colon is a bad line.
-fn answer<R: Print + AllocGlobal>(rt: &R, text: &[u8]) -> io::Result<()> {
+fn answer(rt: &impl Print, text: &[u8]) -> io::Result<()> {
     if text.is_empty() || text[0] == b'-' {
         return Ok(());
     }
@@ -42,7 +43,7 @@ fn answer<R: Print + AllocGlobal>(rt: &R, text: &[u8]) -> io::Result<()> {
     rt.write_all(&text[..end])?;
     print!(rt; ":")?;
     let text = &text[start..];
-    let line = Line::of(rt.alloc(), text)?;
+    let line = Line::of(text);
     match asked(text, &line) {
         Some(question) => question.ask(rt, &line)?,
         None => print!(rt; " bad line")?,

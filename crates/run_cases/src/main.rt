@@ -5,7 +5,10 @@
 
 use recording::UnknownNames;
 use std::io;
-use std::rt::Files;
+use std::rt::{Env, Files};
+
+// What is longer than this many bytes is no path, and counts as empty.
+const ROOM: usize = 4096;
 
 // A file's name without its ending of four bytes; the whole name where it has fewer.
 fn stem(name: &[u8]) -> &[u8] {
@@ -29,25 +32,46 @@ fn case<R: Files + Print>(
     console::print_report(rt, &report)
 }
 
-// Runs the recordings of the names two by two, a table and a recording; a last one without another is left over.
-fn cases<R: Files + Print>(
+// Runs the arguments from one place on, up to another, two by two, a table and a recording; a last one without another is left over.
+fn cases<R: Env + Files + Print>(
     rt: &R,
     errors: &impl Print,
-    names: &[Vec<u8>],
+    from: usize,
+    to: usize,
     unknown: UnknownNames,
 ) -> io::Result<()> {
-    for pair in names.chunks_exact(2) {
-        case(rt, errors, &pair[0], &pair[1], unknown)?;
+    for (first, second) in (from..to).zip((from..to).skip(1)).step_by(2) {
+        let mut table = [0u8; ROOM];
+        let mut recording = [0u8; ROOM];
+        case(
+            rt,
+            errors,
+            console::argument(rt, first, &mut table).unwrap_or(&[]),
+            console::argument(rt, second, &mut recording).unwrap_or(&[]),
+            unknown,
+        )?;
     }
     Ok(())
 }
 
+// Whether the argument at a place is `--strict`.
+fn is_strict(rt: &impl Env, place: usize) -> bool {
+    let mut word = [0u8; ROOM];
+    console::argument(rt, place, &mut word) == Some(b"--strict".as_slice())
+}
+
 fn main(rt: HostRuntime) -> io::Result<()> {
     let errors = rt.stderr();
-    let arguments = console::arguments(&rt, rt.alloc())?;
-    let parts = arguments.splitn(2, |word| word.as_slice() == b"--strict".as_slice());
-    for (names, unknown) in parts.zip([UnknownNames::Ignored, UnknownNames::Refused]) {
-        cases(&rt, &errors, names, unknown)?;
-    }
-    Ok(())
+    let count = console::argument_count(&rt);
+    let strict = (1..count)
+        .find(|place| is_strict(&rt, *place))
+        .unwrap_or(count);
+    cases(&rt, &errors, 1, strict, UnknownNames::Ignored)?;
+    cases(
+        &rt,
+        &errors,
+        strict.saturating_add(1),
+        count,
+        UnknownNames::Refused,
+    )
 }
