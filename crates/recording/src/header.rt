@@ -22,7 +22,7 @@ pub struct Naming<'a> {
 }
 
 // A header that was read: its variables, and the words of the body.
-#[derive(Clone, Copy)]
+#[derive(Drop)]
 pub struct Header<'a> {
     pub variables: Variables,
     pub body: Words<'a>,
