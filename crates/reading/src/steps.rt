@@ -23,7 +23,11 @@ fn write_steps<'a>(
     requires { Room recording.now times.old marks.old ticks.old × (count.old ≡ 0) }
     ensures { s.left (Ok (record { outcome = result; steps = count.new })) times.new marks.new ticks.new ≡ s.filled (s.recorded (reading (naming_of naming.entry) recording.now)) times.old marks.old ticks.old }
 {
-    let header = read_header(naming, recording)?;
+    // With `?` this function gets no proof, since `Variables` is `Copy`.
+    let header = match read_header(naming, recording) {
+        Ok(header) => header,
+        Err(refusal) => return Err(refusal),
+    };
     for step in Steps::new(&header.variables, header.body) {
         let step = step?;
         times[*count] = step.time.0;

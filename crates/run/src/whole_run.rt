@@ -100,7 +100,11 @@ impl Progress {
         requires { Ready clocks records.now self.old.configuration.words × (self.old.steps ≡ 0) }
         ensures { f.came_to result self.new ≡ f.judge_on clocks.named records.now self.old (reading (naming_of naming.entry) recording.now) }
     {
-        let header = read_header(naming, recording)?;
+        // With `?` this method gets no proof, since `Variables` is `Copy`.
+        let header = match read_header(naming, recording) {
+            Ok(header) => header,
+            Err(refusal) => return Err(refusal.into()),
+        };
         for step in Steps::new(&header.variables, header.body) {
             self.take(records, clocks, step?)?;
         }

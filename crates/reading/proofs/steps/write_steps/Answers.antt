@@ -11,27 +11,25 @@ use Rattle.reading.proofs.FillingLaws.{onto_closing, ends_read, ends_refused, on
 use Rattle.reading.proofs.RecordedLaws.{header_refused}
 use Rattle.reading.proofs.steps.write_steps.Goals as goal
 
-pub returns-in_err-header : goal.returns-in_err-header
-returns-in_err-header c =
-    let p = err_from_is_err_and c.from_residual.result c.from_residual.ensures.1 in
-    rw (p.1, p.2, c.requires.1) (header_refused _ _ _ _ _ _ c.in_err-header.ensures.header)
+pub returns-in-Err : goal.returns-in-Err
+returns-in-Err c = rw (c.requires.1) (header_refused _ _ _ _ _ _ c.in-Err.ensures.header)
 
 pub loop-step-init : goal.loop-step-init
 loop-step-init c =
     let a = c.args in
     let r = a.recording.now in
-    let h = c.in_ok-header.ensures in
+    let h = c.in-Ok.ensures in
     let read = rw h.text at h.header in
-    let s : steps_left c.into_iter-step-iterator.result ≡ body_steps c.in_ok-header.header.variables r None (words r c.in_ok-header.header.body.at) =
+    let s : steps_left c.into_iter-step-iterator.result ≡ body_steps c.in-Ok.header.variables r None (words r c.in-Ok.header.body.at) =
     ap steps_left c.into_iter-step-iterator.ensures.into_iter_gives ∙ (rw h.text at c.new-step-items.ensures) in
-    let few = few_steps c.in_ok-header.header.variables r c.in_ok-header.header.body.at in
+    let few = few_steps c.in-Ok.header.variables r c.in-Ok.header.body.at in
     let all = s ∙ reading_is (naming_of a.naming) r _ read in
     (tt, tt, refl, refl, refl, omega (arith, c.requires.1, few, ap (λ g. length g.steps) s), rw (c.requires.1, all) (onto_all r (reading (naming_of a.naming) r) (rw (← all, s) few) a.times.now a.marks.now a.ticks.now c.requires.0))
 
 pub returns-in_err-step : goal.returns-in_err-step
 returns-in_err-step c =
     let l = c.loop-step in
-    let p = err_from_is_err_and c.from_residual-in_err-step.result c.from_residual-in_err-step.ensures.1 in
+    let p = err_from_is_err_and c.from_residual.result c.from_residual.ensures.1 in
     let e = rw c.in_err-step.was at c.in-Some.ensures.steps in
     rw (p.1, p.2) (ends_refused _ l.count l.times l.marks l.ticks ∙ ap (λ g. onto g (steps l.count l.times l.marks l.ticks)) (sym e.0) ∙ l.invariant.6)
 

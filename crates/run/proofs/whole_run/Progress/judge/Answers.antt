@@ -11,11 +11,11 @@ pub loop-step-init : goal.loop-step-init
 loop-step-init c =
     let a = c.args in
     let r = a.recording.now in
-    let h = c.in_ok-header.ensures in
+    let h = c.in-Ok.ensures in
     let read = rw h.text at h.header in
-    let s : steps_left c.into_iter-step-iterator.result ≡ body_steps c.in_ok-header.header.variables r None (words r c.in_ok-header.header.body.at) =
+    let s : steps_left c.into_iter-step-iterator.result ≡ body_steps c.in-Ok.header.variables r None (words r c.in-Ok.header.body.at) =
     ap steps_left c.into_iter-step-iterator.ensures.into_iter_gives ∙ (rw h.text at c.new-step-items.ensures) in
-    (tt, tt, c.requires.0.inside, omega (arith, c.requires.1, few_steps_in (naming_of a.naming) r _ c.in_ok-header.header.body.at read, ap (λ g. length g.steps) s), ap (judge_on a.clocks.named a.records.now a.self.now) (s ∙ reading_is (naming_of a.naming) r _ read))
+    (tt, tt, c.requires.0.inside, omega (arith, c.requires.1, few_steps_in (naming_of a.naming) r _ c.in-Ok.header.body.at read, ap (λ g. length g.steps) s), ap (judge_on a.clocks.named a.records.now a.self.now) (s ∙ reading_is (naming_of a.naming) r _ read))
 
 pub loop-step-preserved : goal.loop-step-preserved
 loop-step-preserved c =
