@@ -7,7 +7,7 @@ mod file;
 mod judge;
 mod word;
 
-pub use command_line::{argument, argument_count};
+pub use command_line::{ARGUMENT_ROOM, argument, argument_count};
 pub use file::read_file;
 pub use judge::{judge_files, judge_folder, print_report};
 pub use word::Part;

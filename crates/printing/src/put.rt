@@ -9,12 +9,9 @@ pub fn put_text(out: &mut [u8], at: usize, text: &[u8]) -> usize
     requires { at + length text.now ≤ length out.old }
     ensures { Put out.old at text.now out.new result }
 {
-    let mut i = 0;
-    while i < text.len() {
-        out[at + i] = text[i];
-        i += 1;
-    }
-    at + i
+    let end = at + text.len();
+    out[at..end].copy_from_slice(text);
+    end
 }
 
 // Puts the decimal digits of a number, the last behind those of its tenth, and answers where they end.
@@ -26,6 +23,6 @@ pub fn put_number(out: &mut [u8], at: usize, n: u64) -> usize
     if 10 <= n {
         last = put_number(out, at, n / 10);
     }
-    out[last] = (48 + n % 10) as u8;
+    out[last] = b'0' + (n % 10) as u8;
     last + 1
 }

@@ -69,7 +69,7 @@ fn put_words(out: &mut [u8], at: usize, words: &[Word]) -> usize
         to = put_pair(out, to, words[i]);
         i += 1;
     }
-    out[to] = 10;
+    out[to] = b'\n';
     to + 1
 }
 

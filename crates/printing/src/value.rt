@@ -18,7 +18,7 @@ fn spaced(out: &mut [u8], at: usize, n: u64) -> usize
     requires { at + 21 ≤ length out.old }
     ensures { Short 21 out.old at (32 ∷ digits n) out.new result }
 {
-    out[at] = 32;
+    out[at] = b' ';
     put_number(out, at + 1, n)
 }
 

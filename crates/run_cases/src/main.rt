@@ -3,12 +3,10 @@
 // documents 01 and 02 say of each stands in `stdout`.
 #![tactic(auto)]
 
+use console::ARGUMENT_ROOM;
 use recording::UnknownNames;
 use std::io;
 use std::rt::{Env, Files};
-
-// What is longer than this many bytes is no path, and counts as empty.
-const ROOM: usize = 4096;
 
 // A file's name without its ending of four bytes; the whole name where it has fewer.
 fn stem(name: &[u8]) -> &[u8] {
@@ -41,8 +39,8 @@ fn cases<R: Env + Files + Print>(
     unknown: UnknownNames,
 ) -> io::Result<()> {
     for (first, second) in (from..to).zip((from..to).skip(1)).step_by(2) {
-        let mut table = [0u8; ROOM];
-        let mut recording = [0u8; ROOM];
+        let mut table = [0u8; ARGUMENT_ROOM];
+        let mut recording = [0u8; ARGUMENT_ROOM];
         case(
             rt,
             errors,
@@ -56,7 +54,7 @@ fn cases<R: Env + Files + Print>(
 
 // Whether the argument at a place is `--strict`.
 fn is_strict(rt: &impl Env, place: usize) -> bool {
-    let mut word = [0u8; ROOM];
+    let mut word = [0u8; ARGUMENT_ROOM];
     console::argument(rt, place, &mut word) == Some(b"--strict".as_slice())
 }
 

@@ -4,11 +4,9 @@
 
 mod show;
 
+use console::ARGUMENT_ROOM;
 use std::io;
 use std::rt::Files;
-
-// What is longer than this many bytes is no path, and counts as empty.
-const ROOM: usize = 4096;
 
 // Prints a file's name, and what the reader answers to its bytes.
 fn case<R: Files + Print>(rt: &R, errors: &impl Print, name: &[u8]) -> io::Result<()> {
@@ -25,7 +23,7 @@ fn case<R: Files + Print>(rt: &R, errors: &impl Print, name: &[u8]) -> io::Resul
 // Reads the file of each argument, in order.
 fn main(rt: HostRuntime) -> io::Result<()> {
     for place in 1..console::argument_count(&rt) {
-        let mut buffer = [0u8; ROOM];
+        let mut buffer = [0u8; ARGUMENT_ROOM];
         let name = console::argument(&rt, place, &mut buffer).unwrap_or(&[]);
         case(&rt, &rt.stderr(), name)?;
     }
